@@ -1,0 +1,109 @@
+//! COUNTs, and the part of each that is sent (TS 38.323, 6.3.5 and 7.1).
+
+ghost use Rattle.std.specs.Prelude.{◌≡◌, ℕ, ◌<◌, ◌≤◌, ◌^◌, MatchOption};
+ghost use Rattle.dc_base.specs.Count.{modulus, window, sn, hfn, joined, count_for, IsCountFor, HasNoCountFor};
+
+/// The length of a PDCP sequence number (TS 38.323, 6.3.2).
+#[derive(Clone, Copy, Debug, PartialEq, Eq)]
+pub enum SnLen {
+    S12,
+    S18,
+}
+
+/// How many sequence numbers there are.
+#[tactic(auto, unfolding(crate::specs::Count::modulus))]
+fn modulus(n: SnLen) -> u32
+    ensures { result ≡ modulus n }
+{
+    match n {
+        SnLen::S12 => 4096,
+        SnLen::S18 => 262_144,
+    }
+}
+
+/// Window_Size: half the sequence numbers, 2,048 or 131,072 (TS 38.323, 7.2).
+#[tactic(auto, unfolding(crate::specs::Count::window))]
+pub fn window(n: SnLen) -> u32
+    ensures { result ≡ window n }
+{
+    match n {
+        SnLen::S12 => 2048,
+        SnLen::S18 => 131_072,
+    }
+}
+
+/// The sequence number of a COUNT: its low 12 or 18 bits (TS 38.323, 6.3.5).
+#[tactic(auto, using(crate::proofs::Counting::modulus_bounds), unfolding(crate::specs::Count::sn))]
+pub fn sn_of(n: SnLen, count: u32) -> u32
+    ensures value { result ≡ sn n count }
+    ensures small { result < modulus n }
+{
+    count % modulus(n)
+}
+
+/// The rest of a COUNT, its hyper frame number.
+#[tactic(auto, using(crate::proofs::Counting::modulus_bounds, crate::proofs::Counting::hfn_small), unfolding(crate::specs::Count::hfn))]
+fn hfn_of(n: SnLen, count: u32) -> u32
+    ensures computed { result ≡ hfn n count }
+    ensures small { result ≤ 2 ^ 20 }
+{
+    count / modulus(n)
+}
+
+/// The COUNT of a hyper frame number and a sequence number, if COUNTs go that far.
+#[tactic(auto, unfolding(crate::specs::Count::joined))]
+fn count_of(n: SnLen, hfn: u32, sn: u32) -> Option<u32>
+    ensures { result ≡ joined n hfn sn }
+{
+    hfn.checked_mul(modulus(n))?.checked_add(sn)
+}
+
+/// The COUNT by the three hyper frame numbers that come into question (TS 38.323, 5.2.2.1).
+#[tactic(auto, using(crate::proofs::Counting::modulus_bounds), unfolding(crate::specs::Count::count_for, crate::specs::Count::before))]
+fn inferred(n: SnLen, reference: u32, sn: u32) -> Option<u32>
+    requires { sn < modulus n }
+    ensures { result ≡ count_for n reference sn }
+{
+    let window = window(n);
+    let hfn = hfn_of(n, reference);
+    let seen = sn_of(n, reference);
+    if sn + window < seen {
+        count_of(n, hfn + 1, sn)
+    } else if sn < seen + window {
+        count_of(n, hfn, sn)
+    } else if hfn == 0 {
+        None
+    } else {
+        count_of(n, hfn - 1, sn)
+    }
+}
+
+/// The COUNT that has the sequence number `sn` and lies in the window round `reference`: from
+/// `reference - window(n)` on, and below `reference + window(n)`. `None` exactly where that number is
+/// below 0 or above 2^32 - 1 (TS 38.323, 5.2.2.1). `sn` is below 2^12 or 2^18.
+#[tactic(auto, using(crate::proofs::Counting::count_for_decides))]
+pub fn infer(n: SnLen, reference: u32, sn: u32) -> Option<u32>
+    requires { sn < modulus n }
+    ensures found { MatchOption result (HasNoCountFor n reference sn) (λ c. IsCountFor n reference sn c) }
+    ensures computed { result ≡ count_for n reference sn }
+{
+    inferred(n, reference, sn)
+}
+
+#[cfg(test)]
+mod tests {
+    use super::*;
+
+    #[test]
+    fn counts_near_a_window_edge(rt: HostRuntime) {
+        let rows = [
+            (SnLen::S12, 2048, 0, Some(0)),
+            (SnLen::S12, 2049, 0, Some(4096)),
+            (SnLen::S12, 0, 2048, None),
+        ];
+        for (n, reference, sn, count) in rows {
+            assert!(rt; sn < 4096);
+            assert_eq!(rt; infer(n, reference, sn), count);
+        }
+    }
+}
