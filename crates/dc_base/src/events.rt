@@ -6,8 +6,19 @@ use crate::answers::{Answer, Word};
 use crate::flights::Flight;
 use crate::identities::{DrbId, Gen};
 use crate::lists::{Memory, Octets};
-use crate::nodes::{Dir, LinkId, Node, Shape, Want};
+use crate::nodes::{Alg, Dir, LinkId, Node, Shape, Want};
 use crate::numbers::SnLen;
+
+/// The first line of a script.
+#[derive(Clone, Copy, Debug, PartialEq, Eq)]
+pub struct Header {
+    /// The ciphering algorithm of every bearer.
+    pub alg: Alg,
+    /// How many SN Counters of the first root key were drawn before, 0 to 65,536.
+    pub used: u32,
+    /// The octets of the first root key.
+    pub root: [u8; 32],
+}
 
 /// One event: a command, a submission, a failure, or what happens to a flight.
 #[derive(Debug, Drop)]

@@ -12,7 +12,7 @@ mod numbers;
 mod records;
 
 pub use answers::{Answer, Refusal, Status, Word};
-pub use events::{Event, Line, Note};
+pub use events::{Event, Header, Line, Note};
 pub use flights::Flight;
 pub use identities::{DrbId, Gen, Tag, teid_of, teid_parts};
 pub use lists::{Memory, Octets, Seq};
