@@ -1,0 +1,2 @@
+pub mod OnEach
+pub mod Growing

@@ -1,0 +1,141 @@
+-- Bearers: when each was established, under which plans and keys, and what was submitted and handed up.
+use Rattle.std.specs.Prelude.{◌≡◌, ℕ, suc, ◌+◌, ◌==◌, ◌&&◌, nat_le, max, if◌then◌else◌, Bool, true, false, List, [], ◌∷◌, ◌++◌, fold, filter, count_by, Option, Some, None, unwrap_or}
+use Rattle.std.specs.List.{flat_map}
+use Rattle.dc_base.specs.declared.numbers.SnLen.{SnLen}
+use Rattle.dc_base.specs.declared.nodes.Dir.{Dir}
+use Rattle.dc_base.specs.declared.nodes.Dir.TheVariants.{Ul, Dl}
+use Rattle.dc_base.specs.declared.nodes.KeyName.{KeyName}
+use Rattle.dc_base.specs.declared.nodes.Side.TheVariants.{Master}
+use Rattle.dc_base.specs.declared.answers.Answer.{Answer}
+use Rattle.dc_base.specs.declared.answers.Answer.TheVariants.{Ok, No}
+use Rattle.dc_base.specs.declared.events.Header.{Header}
+use Rattle.dc_base.specs.declared.events.Event.{Event}
+use Rattle.dc_base.specs.declared.events.Event.TheVariants.{Bearer, Submit}
+use Rattle.dc_base.specs.declared.events.Line.{Line}
+use Rattle.dc_base.specs.declared.events.Line.TheVariants as line
+use Rattle.dc_base.specs.declared.events.Note.TheVariants.{Up, Freed}
+use Rattle.dc_base.specs.declared.records.Item.{Item}
+use Rattle.dc_base.specs.declared.records.Item.TheVariants.{Set, Unset}
+use Rattle.dc_base.specs.declared.records.Plan.{Plan}
+use Rattle.transcript.specs.Transcript.{Entry, gathered}
+
+-- one establishment of an identity, named by the generation that its command drew
+pub record Established : Type 0 where
+  pub g : ℕ
+  pub id : ℕ
+  pub n : SnLen
+  pub first : ℕ    -- the COUNT of its first submission in both directions
+
+abbrev pub is_same_dir : Dir → Dir → Bool
+is_same_dir Ul Ul = true
+is_same_dir Dl Dl = true
+is_same_dir _ _ = false
+
+-- whether an entry draws the next generation
+abbrev pub is_draw_of : Event → Answer → Bool
+is_draw_of (Bearer id n first shape threshold policy) Ok = true
+is_draw_of _ _ = false
+
+abbrev pub is_draw : Entry → Bool
+is_draw e = is_draw_of e.event e.answer
+
+-- the last generation drawn, 0 before the first
+abbrev pub generation : List Entry → ℕ
+generation t = count_by is_draw t
+
+-- the master's key of a root
+abbrev pub master_key : ℕ → KeyName
+master_key root = record { root = root; side = Master }
+
+-- the plan that an entry draws
+abbrev pub plan_of : ℕ → Event → Answer → List Plan
+plan_of g (Bearer id n first shape threshold policy) Ok =
+    record { g = g; sec = None; items = Set id n first shape threshold policy (master_key 0) None ∷ [] } ∷ []
+plan_of g _ _ = []
+
+abbrev pub plan_drawn : List Entry → Entry → List Plan
+plan_drawn before e = plan_of (generation before + 1) e.event e.answer
+
+-- all plans drawn, the oldest first
+abbrev pub plans : List Entry → List Plan
+plans t = gathered plan_drawn t
+
+-- the bearer that an item establishes: one without an old anchor
+abbrev pub established_by : ℕ → Item → List Established
+established_by g (Set id n first shape threshold policy key None) = record { g = g; id = id; n = n; first = first } ∷ []
+established_by g _ = []
+
+-- all establishments, the oldest first
+abbrev pub established : List Entry → List Established
+established t = flat_map (λ p. flat_map (established_by p.g) p.items) (plans t)
+
+-- the latest of these with the identity
+abbrev pub latest : ℕ → List Established → Option Established
+latest id bearers = fold (λ found b. if b.id == id then Some b else found) None bearers
+
+-- whether it is this one
+abbrev pub is_named : Established → Option Established → Bool
+is_named b None = false
+is_named b (Some c) = c.g == b.g
+
+-- whether a bearer is the latest of its identity
+abbrev pub is_latest : Established → List Entry → Bool
+is_latest b t = is_named b (latest b.id (established t))
+
+-- whether a generation of the identity is one of the bearer: no later establishment was drawn up to it
+abbrev pub is_generation_of : Established → ℕ → List Entry → Bool
+is_generation_of b g t = is_named b (latest b.id (filter (λ c. nat_le c.g g) (established t)))
+
+-- the key that an item gives the identity
+abbrev pub key_of_item : ℕ → Option KeyName → Item → Option KeyName
+key_of_item id found (Set i n first shape threshold policy key old) = if i == id then Some key else found
+key_of_item id found (Unset i) = found
+
+-- the key of an identity in the plan of a generation
+abbrev pub key_in : ℕ → ℕ → List Plan → Option KeyName
+key_in g id ps = fold (λ found p. if p.g == g then fold (key_of_item id) found p.items else found) None ps
+
+-- the root keys in the order named
+abbrev pub roots : Header → List Entry → List (List ℕ)
+roots h t = h.root ∷ []
+
+-- the payload that an entry submits to the bearer in this direction
+abbrev pub submission_of : Established → Dir → Bool → Event → Answer → List (List ℕ)
+submission_of b d current (Submit id dir sdu) Ok = if (id == b.id) && is_same_dir dir d && current then sdu ∷ [] else []
+submission_of b d current _ _ = []
+
+abbrev pub submission : Established → Dir → List Entry → Entry → List (List ℕ)
+submission b d before e = submission_of b d (is_latest b before) e.event e.answer
+
+-- the payloads submitted to the bearer in this direction and accepted, in order
+abbrev pub submitted : Established → Dir → List Entry → List (List ℕ)
+submitted b d t = gathered (submission b d) t
+
+-- the payload that a line hands up, with its COUNT
+abbrev pub up_of : Established → Dir → Line → List (ℕ × List ℕ)
+up_of b d (line.Note (Up node id dir count sdu)) = if (id == b.id) && is_same_dir dir d then (count, sdu) ∷ [] else []
+up_of b d _ = []
+
+abbrev pub ups : Established → Dir → List Entry → Entry → List (ℕ × List ℕ)
+ups b d before e = if is_latest b before then flat_map (up_of b d) e.lines else []
+
+-- the payloads of the bearer that were handed up in this direction, each with its COUNT, in order
+abbrev pub handed : Established → Dir → List Entry → List (ℕ × List ℕ)
+handed b d t = gathered (ups b d) t
+
+-- payloads with the COUNTs c, c + 1 and so on
+abbrev pub numbered : ℕ → List (List ℕ) → List (ℕ × List ℕ)
+numbered c [] = []
+numbered c (sdu ∷ sdus) = (c, sdu) ∷ numbered (c + 1) sdus
+
+-- the COUNT to which a line moves the submitter's window
+abbrev pub freed_of : Established → Dir → Line → List ℕ
+freed_of b d (line.Note (Freed id dir count)) = if (id == b.id) && is_same_dir dir d then count ∷ [] else []
+freed_of b d _ = []
+
+abbrev pub frees : Established → Dir → List Entry → Entry → List ℕ
+frees b d before e = if is_latest b before then flat_map (freed_of b d) e.lines else []
+
+-- where the submitter's window begins: the greatest value told, the first COUNT at the start
+abbrev pub told : Established → Dir → List Entry → ℕ
+told b d t = fold max b.first (gathered (frees b d) t)

@@ -1,0 +1,97 @@
+-- What stands on each link.
+use Rattle.std.specs.Prelude.{◌≡◌, ℕ, ◌+◌, ◌*◌, ◌==◌, if◌then◌else◌, Bool, List, [], ◌∷◌, ◌++◌, fold, remove, slice_get, Option, Some, None}
+use Rattle.std.specs.List.{flat_map}
+use Rattle.std.specs.Option.{option_map}
+use Rattle.dc_base.specs.declared.nodes.Node.{Node}
+use Rattle.dc_base.specs.declared.nodes.Node.TheVariants.{T, M, A, B}
+use Rattle.dc_base.specs.declared.nodes.Class.{Class}
+use Rattle.dc_base.specs.declared.nodes.Class.TheVariants.{Ctl, Feed, Air, Tun}
+use Rattle.dc_base.specs.declared.nodes.Dir.{Dir}
+use Rattle.dc_base.specs.declared.nodes.Dir.TheVariants.{Ul, Dl}
+use Rattle.dc_base.specs.declared.nodes.LinkId.{LinkId}
+use Rattle.dc_base.specs.declared.flights.Flight.{Flight}
+use Rattle.dc_base.specs.declared.answers.Answer.{Answer}
+use Rattle.dc_base.specs.declared.answers.Answer.TheVariants.{Ok, No}
+use Rattle.dc_base.specs.declared.answers.Refusal.TheVariants.{Aged}
+use Rattle.dc_base.specs.declared.events.Event.{Event}
+use Rattle.dc_base.specs.declared.events.Event.TheVariants.{Step, Lose}
+use Rattle.dc_base.specs.declared.events.Line.{Line}
+use Rattle.transcript.specs.Transcript.{Entry, sends}
+
+-- links are told apart by numbers
+abbrev pub node_number : Node → ℕ
+node_number T = 0
+node_number M = 1
+node_number A = 2
+node_number B = 3
+
+abbrev pub class_number : Class → ℕ
+class_number Ctl = 0
+class_number Feed = 1
+class_number Air = 2
+class_number Tun = 3
+
+abbrev pub link_number : LinkId → ℕ
+link_number l = node_number l.from + 4 * node_number l.to + 16 * class_number l.class
+
+abbrev pub is_same_link : LinkId → LinkId → Bool
+is_same_link l k = link_number l == link_number k
+
+-- the links between the terminal and the master
+abbrev pub mt_ctl : LinkId
+mt_ctl = record { from = M; to = T; class = Ctl }
+
+abbrev pub tm_ctl : LinkId
+tm_ctl = record { from = T; to = M; class = Ctl }
+
+abbrev pub mt_air : LinkId
+mt_air = record { from = M; to = T; class = Air }
+
+abbrev pub tm_air : LinkId
+tm_air = record { from = T; to = M; class = Air }
+
+-- the link of the same class the other way
+abbrev pub reverse : LinkId → LinkId
+reverse l = record { from = l.to; to = l.from; class = l.class }
+
+-- what the terminal sends is uplink, all else is downlink
+abbrev pub direction_from : Node → Dir
+direction_from T = Ul
+direction_from _ = Dl
+
+abbrev pub direction : LinkId → Dir
+direction l = direction_from l.from
+
+-- the flights of the sends on a link, in order
+abbrev pub on_link : LinkId → LinkId × Flight → List Flight
+on_link l s = if is_same_link l s.0 then s.1 ∷ [] else []
+
+abbrev pub put_on : LinkId → List Line → List Flight
+put_on l lines = flat_map (on_link l) (sends lines)
+
+-- the place from which an event takes a flight: a step gives it or finds it aged, a loss loses it
+abbrev pub place_taken : Event → Answer → Option (LinkId × ℕ)
+place_taken (Step l i) Ok = Some (l, i)
+place_taken (Step l i) (No Aged) = Some (l, i)
+place_taken (Lose l i) Ok = Some (l, i)
+place_taken _ _ = None
+
+abbrev pub without_taken : LinkId → Option (LinkId × ℕ) → List Flight → List Flight
+without_taken l None flights = flights
+without_taken l (Some place) flights = if is_same_link l place.0 then remove flights place.1 else flights
+
+-- what an entry makes of the flights on a link
+abbrev pub content_after : LinkId → List Flight → Entry → List Flight
+content_after l flights e = without_taken l (place_taken e.event e.answer) flights ++ put_on l e.lines
+
+-- the flights that stand on a link, in order: those put on it, less those taken
+abbrev pub content : LinkId → List Entry → List Flight
+content l t = fold (content_after l) [] t
+
+-- the flight that a step answered ok gives to the receiver of its link
+abbrev pub given_at : List Entry → Event → Answer → Option (LinkId × Flight)
+given_at before (Step l i) Ok = option_map (λ f. (l, f)) (slice_get (content l before) i)
+given_at before _ _ = None
+
+abbrev pub given : List Entry → Entry → Option (LinkId × Flight)
+given before e = given_at before e.event e.answer
