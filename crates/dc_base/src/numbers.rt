@@ -102,8 +102,7 @@ mod tests {
             (SnLen::S12, 0, 2048, None),
         ];
         for (n, reference, sn, count) in rows {
-            assert!(rt; sn < 4096);
-            assert_eq!(rt; infer(n, reference, sn), count);
+            assert_eq!(rt; infer(n, reference, sn_of(n, sn)), count);
         }
     }
 }

@@ -1,10 +1,8 @@
 -- What one more entry, and a list of them, adds to what a transcript says.
-use Rattle.std.proofs.Common.{ℕ, ◌≡◌, ◌+◌, ◌++◌, ◌⊎◌, List, [], ◌∷◌, refl, sym, ap, ◌∙◌, subst, inl, inr, append_assoc}
-use Rattle.std.specs.Prelude.{fold, count_by}
+use Rattle.std.proofs.Common.{◌≡◌, ◌++◌, List, [], ◌∷◌, sym, ap, ◌∙◌, subst, inl, inr, append_assoc}
 use Rattle.std.proofs.lemmas.List.{append-nil}
 use Rattle.std.proofs.lemmas.List.Sums.{fold-append}
 use Rattle.dc_base.specs.declared.nodes.LinkId.{LinkId}
-use Rattle.dc_base.specs.declared.flights.Flight.{Flight}
 use Rattle.transcript.specs.Transcript.{Entry, gathered_from, gathered, EachFrom, Each, SomeFrom, SomeEntry}
 use Rattle.transcript.specs.Content.{content, content_after}
 

@@ -1,5 +1,5 @@
 -- Bearers: when each was established, under which plans and keys, and what was submitted and handed up.
-use Rattle.std.specs.Prelude.{◌≡◌, ℕ, suc, ◌+◌, ◌==◌, ◌&&◌, nat_le, max, if◌then◌else◌, Bool, true, false, List, [], ◌∷◌, ◌++◌, fold, filter, count_by, Option, Some, None, unwrap_or}
+use Rattle.std.specs.Prelude.{ℕ, ◌+◌, ◌==◌, ◌&&◌, nat_le, max, if◌then◌else◌, Bool, true, false, List, [], ◌∷◌, fold, filter, count_by, Option, Some, None}
 use Rattle.std.specs.List.{flat_map}
 use Rattle.dc_base.specs.declared.numbers.SnLen.{SnLen}
 use Rattle.dc_base.specs.declared.nodes.Dir.{Dir}
@@ -7,7 +7,7 @@ use Rattle.dc_base.specs.declared.nodes.Dir.TheVariants.{Ul, Dl}
 use Rattle.dc_base.specs.declared.nodes.KeyName.{KeyName}
 use Rattle.dc_base.specs.declared.nodes.Side.TheVariants.{Master}
 use Rattle.dc_base.specs.declared.answers.Answer.{Answer}
-use Rattle.dc_base.specs.declared.answers.Answer.TheVariants.{Ok, No}
+use Rattle.dc_base.specs.declared.answers.Answer.TheVariants.{Ok}
 use Rattle.dc_base.specs.declared.events.Header.{Header}
 use Rattle.dc_base.specs.declared.events.Event.{Event}
 use Rattle.dc_base.specs.declared.events.Event.TheVariants.{Bearer, Submit}
@@ -24,7 +24,7 @@ pub record Established : Type 0 where
   pub g : ℕ
   pub id : ℕ
   pub n : SnLen
-  pub first : ℕ    -- the COUNT of its first submission in both directions
+  pub first : ℕ  -- the COUNT of its first submission in both directions
 
 abbrev pub is_same_dir : Dir → Dir → Bool
 is_same_dir Ul Ul = true

@@ -1,10 +1,8 @@
 -- The text of each line of a script and of a transcript.
-use Rattle.std.specs.Prelude.{ℕ, ◌+◌, ◌==◌, nat_le, if◌then◌else◌, Bool, true, false, List, [], ◌∷◌, ◌++◌, codes, map, Option, Some, None, slice_index}
+use Rattle.std.specs.Prelude.{ℕ, nat_le, if◌then◌else◌, Bool, false, List, [], ◌∷◌, ◌++◌, codes, map}
 use Rattle.std.specs.Fmt.{decimal}
 use Rattle.std.specs.List.{join_with_byte, flat_map}
 use Rattle.hex.specs.Hex.{encode_lower}
-use Rattle.dc_base.specs.declared.nodes.Dir.{Dir}
-use Rattle.dc_base.specs.declared.nodes.LinkId.{LinkId}
 use Rattle.dc_base.specs.declared.answers.Answer.{Answer}
 use Rattle.dc_base.specs.declared.answers.Answer.TheVariants.{Ok, No}
 use Rattle.dc_base.specs.declared.events.Header.{Header}
@@ -19,7 +17,6 @@ use Rattle.dc_base.specs.declared.flights.Flight.TheVariants as flight
 use Rattle.dc_base.specs.declared.records.Item.{Item}
 use Rattle.dc_base.specs.declared.records.Item.TheVariants.{Set, Unset}
 use Rattle.dc_base.specs.declared.records.Plan.{Plan}
-use Rattle.dc_base.specs.declared.records.StatusTransfer.{StatusTransfer}
 use Rattle.dc_base.specs.declared.records.Rec.{Rec}
 use Rattle.dc_base.specs.declared.records.Rec.TheVariants as rec
 use Rattle.transcript.specs.Words.{spaced, or_dash, octets_or_dash, dir_word, node_word, alg_word, sn_word, link_word, shape_word, key_word, want_word, state_word, refusal_word, cause_word}

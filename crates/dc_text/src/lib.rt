@@ -1,0 +1,13 @@
+//! The text that scripts and transcripts are made of: the lines of a source, decimal numbers, and octets in hexadecimal
+//! digits.
+#![tactic(auto)]
+
+mod hex_text;
+mod lines;
+mod numbers;
+#[cfg(test)]
+mod tests;
+
+pub use hex_text::hex_octets;
+pub use lines::{LineErr, LineReader, MAX_INPUT, MAX_LINE, MAX_READ};
+pub use numbers::decimal;

@@ -1,0 +1,81 @@
+//! The command line, read and run.
+
+ghost use Rattle.std.specs.Prelude.{◌≡◌, ◌↔◌, ℕ, ◌<◌, ◌≤◌, List, [], ◌∷◌, length, codes, Some, IsTrue, map, string_bytes};
+ghost use Rattle.dc_base.specs.declared.answers.Status.{Status};
+ghost use Rattle.dc_outside.specs.Faults.{Rose};
+ghost use Rattle.dc_top.specs.Script.{most_octets};
+ghost use Rattle.dc_top.specs.Command.{HasEnded};
+
+use crate::faults::write_fault;
+use crate::reading::{Unread, read_all};
+use crate::running::run_script;
+use dc_base::Status;
+use dc_outside::{Sink, Source};
+use std::alloc::Global;
+
+/// Whether the words are the one form that is built: `run`.
+fn is_run(words: &[String]) -> bool
+    ensures { IsTrue result ↔ (map string_bytes words.now ≡ codes "run" ∷ []) }
+{
+    match words {
+        [word] => word.as_str() == "run",
+        _ => false,
+    }
+}
+
+/// Runs octets that were read whole, and writes the text.
+fn write_run<K: Sink>(alloc: Global, input: &[u8], out: &mut K) -> Status
+    requires { length input.now ≤ most_octets }
+    ensures ended { HasEnded input.now result (K.put_out out.old) (K.put_out out.new) }
+    ensures fault { result ≡ Status.WriteFault → Rose (K.fault_count out.old) (K.fault_count out.new) }
+    ensures used { (result ≡ Status.Usage → ⊥) × (result ≡ Status.ReadFault → ⊥) × (result ≡ Status.TooLong → ⊥) }
+{
+    let Ok(ran) = run_script(alloc, input) else {
+        return Status::Memory;
+    };
+    if out.write_all(ran.text.as_slice()).is_err() {
+        return Status::WriteFault;
+    }
+    match ran.bad {
+        None => Status::Ok,
+        Some(line) => Status::BadLine { line, column: 1 },
+    }
+}
+
+/// Reads the source whole, runs its octets as a script, and writes the transcript.
+fn run<S: Source, K: Sink>(alloc: Global, src: &mut S, out: &mut K) -> Status
+    ensures ended { (input : List ℕ) → S.left src.old ≡ Some input → HasEnded input result (K.put_out out.old) (K.put_out out.new) }
+    ensures read_fault { result ≡ Status.ReadFault → Rose (S.fault_count src.old) (S.fault_count src.new) }
+    ensures write_fault { result ≡ Status.WriteFault → Rose (K.fault_count out.old) (K.fault_count out.new) }
+    ensures too_long { result ≡ Status.TooLong → (input : List ℕ) → S.left src.old ≡ Some input → most_octets < length input }
+    ensures used { result ≡ Status.Usage → ⊥ }
+{
+    match read_all(alloc, src) {
+        Ok(input) => write_run(alloc, input.as_slice(), out),
+        Err(Unread::Fault) => Status::ReadFault,
+        Err(Unread::TooLong) => Status::TooLong,
+        Err(Unread::Memory) => Status::Memory,
+    }
+}
+
+/// The top call: runs the program on the words of its command line, without its name, and answers the status that it
+/// ends with. The one form that is built is `run`: it reads a script from `src` and writes the transcript to `out`; any
+/// other words are `Usage`, and nothing is read or written. A fault text goes to `err`, whose faults change nothing.
+pub fn run_command<S: Source, K: Sink, E: Sink>(alloc: Global, words: &[String], src: &mut S, out: &mut K, err: &mut E) -> Status
+    // Which words are none of the forms.
+    ensures usage { (result ≡ Status.Usage) ↔ ((map string_bytes words.now ≡ codes "run" ∷ []) → ⊥) }
+    ensures unused { result ≡ Status.Usage → (src.new ≡ src.old) × (out.new ≡ out.old) }
+
+    // What was written, where source and sink tell their octets: the run theorem stands here.
+    ensures ended { (map string_bytes words.now ≡ codes "run" ∷ []) → (input : List ℕ) → S.left src.old ≡ Some input
+        → HasEnded input result (K.put_out out.old) (K.put_out out.new) }
+
+    // When the other answers come.
+    ensures read_fault { result ≡ Status.ReadFault → Rose (S.fault_count src.old) (S.fault_count src.new) }
+    ensures write_fault { result ≡ Status.WriteFault → Rose (K.fault_count out.old) (K.fault_count out.new) }
+    ensures too_long { result ≡ Status.TooLong → (input : List ℕ) → S.left src.old ≡ Some input → most_octets < length input }
+{
+    let status = if is_run(words) { run(alloc, src, out) } else { Status::Usage };
+    write_fault(status, err);
+    status
+}

@@ -1,0 +1,4 @@
+pub mod Again
+pub mod Headers
+pub mod Places
+pub mod Unique

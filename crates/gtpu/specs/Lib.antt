@@ -1,0 +1,6 @@
+pub mod Content
+pub mod Extension
+pub mod Grammar
+pub mod Fault
+pub mod Walk
+pub mod Spelling

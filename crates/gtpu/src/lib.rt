@@ -1,0 +1,17 @@
+//! GTP-U packets (TS 29.281): a decoder that lends the parts out of the octets, and an encoder.
+//! Of the extension headers it understands the NR RAN container and the PDCP PDU number, in two lengths.
+#![tactic(auto)]
+
+mod decoding;
+mod encoding;
+mod extensions;
+mod faults;
+mod packet;
+
+pub use decoding::decode;
+pub use encoding::encode;
+pub use faults::GtpErr;
+pub use packet::{GtpKind, Packet, PduNumber};
+
+#[cfg(test)]
+mod tests;

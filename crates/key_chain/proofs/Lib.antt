@@ -1,0 +1,3 @@
+mod Masking
+mod Halves
+mod Counters

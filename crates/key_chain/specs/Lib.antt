@@ -1,0 +1,5 @@
+pub mod Hmac
+pub mod Derived
+pub mod KeyNames
+pub mod Book
+pub mod Pages

@@ -1,0 +1,5 @@
+pub mod CombinedLaws
+pub mod KeystreamLaws
+pub mod OctetWords
+pub mod RoundKeys
+pub mod TableRules

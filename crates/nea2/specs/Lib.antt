@@ -1,0 +1,5 @@
+pub mod Cipher
+pub mod Combined
+pub mod Field
+pub mod Keystream
+pub mod Words

@@ -1,0 +1,5 @@
+pub mod Numbers
+pub mod Ranges
+pub mod Grammar
+pub mod Status
+pub mod Written

@@ -1,0 +1,45 @@
+-- What is written is the frame, and fits a container.
+use Rattle.std.proofs.Common.{◌≡◌, ℕ, ◌+◌, ◌-◌, ◌*◌, ◌++◌, ◌∷◌, ◌/◌, ◌%◌, ◌<◌, ◌≤◌, ◌^◌, Bool, true, false, cond, [], List, length, Option, Some, None, is_some, refl, sym, ap, ◌∙◌, arith}
+use Rattle.std.specs.Prelude.{IfSome, replicate}
+use Rattle.std.specs.List.{flat_map}
+use Rattle.std.proofs.lemmas.List.{length-append, length-replicate}
+use Rattle.nr_u.specs.declared.frame.Range.{Range}
+use Rattle.nr_u.specs.declared.frame.Frame.{Frame}
+use Rattle.nr_u.specs.declared.frame.Frame.TheVariants.{User, Status}
+use Rattle.nr_u.specs.Frames.{AreRanges, range, optional, fields, flag, first_octet, padded, written, is_set, IsFirst, Fits, IsWritable, IsFrame}
+use Rattle.nr_u.proofs.Grammar.{length-ranges}
+
+first_is : (f : Frame) → IsFirst (first_octet f) f
+first_is (User n false false) = (refl, refl, refl)
+first_is (User n false true) = (refl, refl, refl)
+first_is (User n true false) = (refl, refl, refl)
+first_is (User n true true) = (refl, refl, refl)
+first_is (Status None lost) = (refl, refl)
+first_is (Status (Some h) lost) = (refl, refl)
+
+fits : (f : Frame) → IsWritable f → Fits f
+fits (User n user repeat) can = can
+fits (Status highest lost) can = (can.0, omega (arith, can.1), can.2)
+
+fields_len : (f : Frame) → IsWritable f → length (fields f) ≤ 1012
+fields_len (User n user repeat) can = omega arith
+fields_len (Status None lost) can = omega (arith, can.1, length-ranges lost)
+fields_len (Status (Some h) lost) can = omega (arith, can.1, length-ranges lost)
+
+-- with its padding a frame ends within a container, which has at most 1018 octets
+pub written_fits : (f : Frame) → IsWritable f → length (written f) ≤ 1018
+written_fits f can =
+    let pad = (6 - length (first_octet f ∷ fields f) % 4) % 4 in
+    omega (arith, fields_len f can, length-append (first_octet f ∷ fields f) (replicate pad 0), length-replicate {A = ℕ} pad 0)
+
+pub written_is_frame : (f : Frame) → IsWritable f → IsFrame (written f) f
+written_is_frame f can =
+    let pad = (6 - length (first_octet f ∷ fields f) % 4) % 4 in
+    record {
+      first = first_octet f;
+      padding = replicate pad 0;
+      parts = refl;
+      first_is = first_is f;
+      fits = fits f can;
+      short = omega (arith, length-replicate {A = ℕ} pad 0);
+    }

@@ -1,0 +1,93 @@
+use super::*;
+use dc_base::Seq;
+use std::test::Fail;
+
+const LOST_0: [u8; 14] = [0x11, 1, 0, 0, 1, 0, 0, 0, 0, 0, 0, 0, 0, 0];
+
+const LOST_1: [u8; 14] = [0x11, 1, 0, 0, 2, 0, 0, 1, 0, 0, 1, 0, 0, 0];
+
+const USER_0: [u8; 6] = [1, 0, 0, 0, 0, 0];
+
+#[test]
+fn statuses_cut_at_every_length(rt: HostRuntime) -> Result<(), Fail> {
+    let rows = [
+        (LOST_0, Some(1), Range { from: 0, to: 0 }),
+        (LOST_1, Some(2), Range { from: 1, to: 1 }),
+    ];
+    for (octets, highest, range) in rows {
+        for len in 0..15 {
+            match decode(rt.alloc(), &octets[..len]) {
+                Ok(Frame::Status { highest: h, lost }) => {
+                    assert!(rt; len >= 11);
+                    assert_eq!(rt; h, highest);
+                    assert_eq!(rt; lost.as_slice(), [range].as_slice());
+                }
+                Err(NruErr::Short { place }) => {
+                    assert!(rt; len < 11);
+                    assert_eq!(rt; place, len);
+                }
+                _ => assert!(rt; len > 14, "a status cut to {len}"),
+            }
+        }
+        let f = Frame::Status {
+            highest,
+            lost: Seq::from_vec(Vec::from_slice(rt.alloc(), &[range])?),
+        };
+        let written = encode(rt.alloc(), &f).ok().ok_or("memory")?;
+        assert_eq!(rt; written.as_slice(), octets.as_slice());
+    }
+    Ok(())
+}
+
+#[test]
+fn user_data_cut_at_every_length(rt: HostRuntime) -> Result<(), Fail> {
+    for len in 0..7 {
+        match decode(rt.alloc(), &USER_0[..len]) {
+            Ok(
+                Frame::User {
+                    number,
+                    user,
+                    repeat,
+                },
+            ) => {
+                assert!(rt; len >= 4);
+                assert_eq!(rt; (number, user, repeat), (0, true, false));
+            }
+            Err(NruErr::Short { place }) => {
+                assert!(rt; len < 4);
+                assert_eq!(rt; place, len);
+            }
+            _ => assert!(rt; len > 6, "user data cut to {len}"),
+        }
+    }
+    let f = Frame::User {
+        number: 0,
+        user: true,
+        repeat: false,
+    };
+    let written = encode(rt.alloc(), &f).ok().ok_or("memory")?;
+    assert_eq!(rt; written.as_slice(), USER_0.as_slice());
+    Ok(())
+}
+
+#[test]
+fn faults(rt: HostRuntime) {
+    let rows: [(&[u8], NruErr); 6] = [
+        (&[0x20], NruErr::Kind { place: 0 }),
+        // eight octets of a user data frame
+        (&[1, 0, 0, 0, 0, 0, 0, 0], NruErr::Trailing { place: 7 }),
+        // a highest sequence number of 2^18
+        (&[0x11, 0, 4, 0, 0], NruErr::Ranges { place: 2 }),
+        // 5 to 4
+        (&[0x10, 1, 0, 0, 5, 0, 0, 4], NruErr::Ranges { place: 2 }),
+        // 5 to 6, and then 6 to 7
+        (
+            &[0x10, 2, 0, 0, 5, 0, 0, 6, 0, 0, 6, 0, 0, 7],
+            NruErr::Ranges { place: 8 },
+        ),
+        (&[0x10, 0, 0, 0, 0, 0], NruErr::Trailing { place: 5 }),
+    ];
+    for (octets, fault) in rows {
+        assert_eq!(rt; decode(rt.alloc(), octets).err(), Some(fault));
+    }
+}

@@ -1,0 +1,5 @@
+pub mod Entries
+pub mod Places
+pub mod Parts
+pub mod Rules
+pub mod Laws

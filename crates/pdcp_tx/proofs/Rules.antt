@@ -1,0 +1,29 @@
+-- When each rule refuses, and when it does not.
+use Rattle.std.proofs.Common.{ℕ, ◌≡◌, ◌+◌, ◌-◌, ◌^◌, ◌<◌, ◌≤◌, ◌∷◌, ◌++◌, [], List, Result, Ok, Err, length, refl, ◌∙◌, arith}
+use Rattle.std.specs.List.{enumerate_from, range_with_len}
+use Rattle.std.proofs.lemmas.Bool.{le-leb, lt-leb, lt-ltb, le-ltb, eq-eqb, ne_eqb}
+use Rattle.dc_base.specs.Count.{window}
+use Rattle.pdcp_tx.specs.declared.tx.TxErr.{TxErr}
+use Rattle.pdcp_tx.specs.declared.tx.TxErr.TheVariants.{Full, Exhausted}
+use Rattle.pdcp_tx.specs.Sender.{Sender, low}
+use Rattle.pdcp_tx.specs.Sending.{taken, numbered}
+
+pub taken-full : (s : Sender) (sdu : List ℕ) → low s + window s.n ≤ s.next → taken s sdu ≡ Err (Full (low s) s.next)
+taken-full s sdu full = rw (le-leb _ _ full) refl
+
+pub taken-exhausted : (s : Sender) (sdu : List ℕ) → s.next < low s + window s.n → s.next ≡ 2 ^ 32 - 1 → taken s sdu ≡ Err Exhausted
+taken-exhausted s sdu room last = rw (lt-leb _ _ room, eq-eqb _ _ last) refl
+
+pub taken-ok : (s : Sender) (sdu : List ℕ) → s.next < low s + window s.n → (s.next ≡ 2 ^ 32 - 1 → ⊥)
+    → taken s sdu ≡ Ok (record s { next = s.next + 1; kept = s.kept ++ (s.next, sdu) ∷ [] }, s.next)
+taken-ok s sdu room left = rw (lt-leb _ _ room, ne_eqb _ _ left) refl
+
+pub numbered-full : (s : Sender) → low s + window s.n < s.next + length s.held → numbered s ≡ Err (Full (low s) s.next)
+numbered-full s full = rw (lt-ltb _ _ full) refl
+
+pub numbered-exhausted : (s : Sender) → s.next + length s.held ≤ low s + window s.n → 2 ^ 32 - 1 < s.next + length s.held → numbered s ≡ Err Exhausted
+numbered-exhausted s room last = rw (le-ltb _ _ room, lt-ltb _ _ last) refl
+
+pub numbered-ok : (s : Sender) → s.next + length s.held ≤ low s + window s.n → s.next + length s.held ≤ 2 ^ 32 - 1
+    → numbered s ≡ Ok (record s { next = s.next + length s.held; kept = s.kept ++ enumerate_from s.next s.held; held = [] }, range_with_len s.next (length s.held))
+numbered-ok s room left = rw (le-ltb _ _ room, le-ltb _ _ left) refl

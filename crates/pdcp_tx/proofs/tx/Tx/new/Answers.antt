@@ -1,0 +1,6 @@
+use Rattle.std.proofs.Common.{◌≡◌, [], rules}
+use Rattle.pdcp_tx.proofs.Entries.{in_window-none}
+use Rattle.pdcp_tx.proofs.tx.Tx.new.Goals as goal
+
+pub invariant_of-result : goal.invariant_of-result
+invariant_of-result c = let none : c.new.result.items ≡ [] = search rules in rw none (in_window-none c.args.n c.args.first)

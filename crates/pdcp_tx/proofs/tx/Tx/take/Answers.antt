@@ -1,0 +1,28 @@
+use Rattle.std.proofs.Common.{◌≡◌, ℕ, ◌+◌, ◌<◌, ◌≤◌, Result, Err, subst, arith}
+use Rattle.dc_base.specs.Count.{window}
+use Rattle.pdcp_tx.specs.declared.tx.TxErr.{TxErr}
+use Rattle.pdcp_tx.specs.declared.tx.TxErr.TheVariants.{Full}
+use Rattle.pdcp_tx.specs.Sender.{Sender, least}
+use Rattle.pdcp_tx.specs.Sending.{taken}
+use Rattle.pdcp_tx.proofs.Entries.{in_window-near, in_window-taken}
+use Rattle.pdcp_tx.proofs.Rules.{taken-full}
+use Rattle.pdcp_tx.proofs.tx.Tx.take.Goals as goal
+
+pub overflow_sub-self-inside : goal.overflow_sub-self-inside
+overflow_sub-self-inside c =
+    let near = in_window-near c.self.inside.n c.self.inside.next c.self.inside.kept.items c.self.invariant in
+    omega (arith, near.1, c.least-low.ensures)
+
+pub returns-then-self-low-clause-err : goal.returns-then-self-low-clause-err
+returns-then-self-low-clause-err c =
+    let near = in_window-near c.self.inside.n c.self.inside.next c.self.inside.kept.items c.self.invariant in
+    let s : Sender = record { n = c.self.inside.n; next = c.self.inside.next; kept = c.self.inside.kept.items; held = c.self.inside.held.items } in
+    let full : least s.next s.kept + window s.n ≤ s.next = omega (arith, near.1, c.least-low.ensures, c.window.ensures, c.if-self-low.true) in
+    subst (λ v. ◌≡◌ {A = Result (Sender × ℕ) TxErr} (taken v c.args.sdu) (Err (Full c.least-low.result c.self.inside.next))) c.self.view_is
+    (rw c.least-low.ensures (taken-full s c.args.sdu full))
+
+pub invariant_of-self : goal.invariant_of-self
+invariant_of-self c =
+    let near = in_window-near c.self.inside.n c.self.inside.next c.self.inside.kept.items c.self.invariant in
+    let room : c.self.inside.next < least c.self.inside.next c.self.inside.kept.items + window c.self.inside.n = omega (arith, near.1, c.least-low.ensures, c.window.ensures, c.if-self-low.false) in
+    rw c.in-Ok.ensures.items (in_window-taken c.self.inside.n c.self.inside.next c.self.inside.kept.items c.args.sdu c.self.invariant room)

@@ -1,0 +1,3 @@
+-- the definitions that contracts cite
+pub mod Sender
+pub mod Sending

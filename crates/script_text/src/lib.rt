@@ -1,0 +1,11 @@
+//! The text of scripts and transcripts: each line is written, and each line of a script is read.
+#![tactic(auto)]
+
+mod fields;
+mod flights;
+mod lines;
+#[cfg(test)]
+mod tests;
+mod words;
+
+pub use lines::{write_header, write_line};

@@ -1,0 +1,246 @@
+//! Lines, written.
+
+ghost use Rattle.std.specs.Prelude.{◌≡◌, ◌++◌, ◌∷◌, [], OnOk, IfOk};
+ghost use Rattle.std.specs.Fmt.{decimal};
+ghost use Rattle.transcript.specs.Text.{header_text, event_text, answer_text, note_text, line_text};
+ghost use Rattle.transcript.specs.Words.{spaced, link_word};
+ghost use Rattle.dc_base.specs.declared.events.Line.TheVariants.{Send};
+
+use crate::fields::{Field, write_spaced};
+use crate::flights::write_flight;
+use crate::words::{write_link, write_text};
+use dc_base::{Answer, Event, Flight, Header, Line, LinkId, Memory, Note, Octets};
+use std::alloc::Global;
+
+/// The header as the first line of a script and of a transcript, without its end. The only error is want of memory.
+pub fn write_header(alloc: Global, header: &Header) -> Result<Octets, Memory>
+    ensures { IfOk result (λ text. text ≡ header_text header.now) }
+{
+    let mut out = Octets::new(alloc);
+    let fields = [
+        Field::Text("dcs1"),
+        Field::Alg(header.alg),
+        Field::Number(header.used),
+        Field::Root(&header.root),
+    ];
+    write_spaced(&mut out, &fields)?;
+    Ok(out)
+}
+
+/// A line of a transcript without its end, and an event without its mark `> `, as a script has it. The only error
+/// is want of memory.
+pub fn write_line(alloc: Global, line: &Line) -> Result<Octets, Memory>
+    ensures { IfOk result (λ text. text ≡ line_text line.now) }
+{
+    let mut out = Octets::new(alloc);
+    append_line(&mut out, line)?;
+    Ok(out)
+}
+
+/// Adds a line.
+fn append_line(out: &mut Octets, line: &Line) -> Result<(), Memory>
+    ensures { OnOk result (out.new ≡ out.old ++ line_text line.now) }
+{
+    match line {
+        Line::Event(event) => write_event(out, event),
+        Line::Answer(answer) => {
+            write_text(out, "= ")?;
+            write_answer(out, *answer)
+        }
+        Line::Note(note) => {
+            write_text(out, "- ")?;
+            write_note(out, note)
+        }
+        Line::Send(link, flight) => write_send(out, *link, flight),
+    }
+}
+
+/// Adds an event.
+fn write_event(out: &mut Octets, event: &Event) -> Result<(), Memory>
+    ensures { OnOk result (out.new ≡ out.old ++ event_text event.now) }
+{
+    match event {
+        Event::Bearer {
+            id,
+            n,
+            first,
+            shape,
+            threshold,
+            policy,
+        } => write_spaced(
+            out,
+            &[
+                Field::Text("bearer"),
+                Field::Id(*id),
+                Field::Sn(*n),
+                Field::Number(*first),
+                Field::Shape(*shape),
+                Field::Number(*threshold),
+                Field::Number(u32::from(*policy)),
+            ],
+        ),
+        Event::Reshape { id, shape } => {
+            write_spaced(
+                out,
+                &[Field::Text("shape"), Field::Id(*id), Field::Shape(*shape)],
+            )
+        }
+        Event::Remove { id } => write_spaced(out, &[Field::Text("drop"), Field::Id(*id)]),
+        Event::Add { node } => write_spaced(out, &[Field::Text("add"), Field::Node(*node)]),
+        Event::Change => write_text(out, "change"),
+        Event::Release => write_text(out, "release"),
+        Event::RekeySecond => write_text(out, "rekey s"),
+        Event::RekeyMaster { root } => {
+            write_spaced(
+                out,
+                &[Field::Text("rekey"), Field::Text("m"), Field::Root(root)],
+            )
+        }
+        Event::Recover { id } => write_spaced(out, &[Field::Text("recover"), Field::Id(*id)]),
+        Event::Report { node, id } => {
+            write_spaced(
+                out,
+                &[Field::Text("report"), Field::Node(*node), Field::Id(*id)],
+            )
+        }
+        Event::Deny { node, on } => {
+            write_spaced(
+                out,
+                &[Field::Text("deny"), Field::Node(*node), Field::State(*on)],
+            )
+        }
+        Event::Ask { node, what } => {
+            write_spaced(
+                out,
+                &[Field::Text("want"), Field::Node(*node), Field::Want(*what)],
+            )
+        }
+        Event::ScgFail => write_text(out, "scgfail"),
+        Event::Submit { id, dir, sdu } => {
+            write_spaced(
+                out,
+                &[Field::Dir(*dir), Field::Id(*id), Field::Payload(sdu)],
+            )
+        }
+        Event::Step { link, index } => write_fate(out, "step", *link, *index),
+        Event::Lose { link, index } => write_fate(out, "lose", *link, *index),
+        Event::Again { link, index } => write_fate(out, "again", *link, *index),
+    }
+}
+
+/// Adds what happens to a flight: the word, the link, the place on it.
+fn write_fate(out: &mut Octets, word: &str, link: LinkId, index: u32) -> Result<(), Memory>
+    ensures { OnOk result (out.new ≡ out.old ++ spaced (word.now ∷ link_word link ∷ decimal index ∷ [])) }
+{
+    write_spaced(
+        out,
+        &[Field::Text(word), Field::Link(link), Field::Number(index)],
+    )
+}
+
+/// Adds an answer.
+fn write_answer(out: &mut Octets, answer: Answer) -> Result<(), Memory>
+    ensures { OnOk result (out.new ≡ out.old ++ answer_text answer) }
+{
+    match answer {
+        Answer::Ok => write_text(out, "ok"),
+        Answer::No(why) => write_spaced(out, &[Field::Text("no"), Field::Refusal(why)]),
+    }
+}
+
+/// Adds a note.
+fn write_note(out: &mut Octets, note: &Note) -> Result<(), Memory>
+    ensures { OnOk result (out.new ≡ out.old ++ note_text note.now) }
+{
+    match note {
+        Note::Begin { what } => write_spaced(out, &[Field::Text("begin"), Field::Want(*what)]),
+        Note::Join { node, g } => {
+            write_spaced(
+                out,
+                &[Field::Text("join"), Field::Node(*node), Field::Number(*g)],
+            )
+        }
+        Note::Leave { node, g } => {
+            write_spaced(
+                out,
+                &[Field::Text("leave"), Field::Node(*node), Field::Number(*g)],
+            )
+        }
+        Note::Give { node, id, g } => write_spaced(
+            out,
+            &[
+                Field::Text("give"),
+                Field::Node(*node),
+                Field::Id(*id),
+                Field::Number(*g),
+            ],
+        ),
+        Note::Own { node, id, g } => write_spaced(
+            out,
+            &[
+                Field::Text("own"),
+                Field::Node(*node),
+                Field::Id(*id),
+                Field::Number(*g),
+            ],
+        ),
+        Note::Set { id, g } => {
+            write_spaced(
+                out,
+                &[Field::Text("set"), Field::Id(*id), Field::Number(*g)],
+            )
+        }
+        Note::Unset { id } => write_spaced(out, &[Field::Text("unset"), Field::Id(*id)]),
+        Note::Up {
+            node,
+            id,
+            dir,
+            count,
+            sdu,
+        } => write_spaced(
+            out,
+            &[
+                Field::Text("up"),
+                Field::Node(*node),
+                Field::Id(*id),
+                Field::Dir(*dir),
+                Field::Number(*count),
+                Field::Payload(sdu),
+            ],
+        ),
+        Note::Freed { id, dir, count } => write_spaced(
+            out,
+            &[
+                Field::Text("freed"),
+                Field::Id(*id),
+                Field::Dir(*dir),
+                Field::Number(*count),
+            ],
+        ),
+        Note::Confirmed { node } => {
+            write_spaced(out, &[Field::Text("confirmed"), Field::Node(*node)])
+        }
+        Note::Refused { node, word } => {
+            write_spaced(
+                out,
+                &[
+                    Field::Text("refused"),
+                    Field::Node(*node),
+                    Field::Cause(*word),
+                ],
+            )
+        }
+        Note::Done => write_text(out, "done"),
+        Note::Rejected => write_text(out, "rejected"),
+    }
+}
+
+/// Adds a flight that is put at the end of a link.
+fn write_send(out: &mut Octets, link: LinkId, flight: &Flight) -> Result<(), Memory>
+    ensures { OnOk result (out.new ≡ out.old ++ line_text (Send link flight.now)) }
+{
+    write_text(out, "- send ")?;
+    write_link(out, link)?;
+    out.push(b' ')?;
+    write_flight(out, flight)
+}

@@ -1,0 +1,286 @@
+//! Rows worked by hand.
+
+use crate::{write_header, write_line};
+use dc_base::{
+    Alg, Answer, Cell, Class, Dir, DrbId, Event, Flight, Header, Item, KeyName, LegSet, Line,
+    LinkId, Memory, Node, Note, Octets, Plan, Rec, Refusal, Seq, Shape, Side, SnLen,
+    StatusTransfer, Tag, Want, Word,
+};
+use std::alloc::Global;
+use std::process::Abort;
+use std::test::Fail;
+
+fn first_bearer() -> Result<DrbId, Fail> {
+    Ok(DrbId::new(1).ok_or("1 is an identity")?)
+}
+
+fn link(from: Node, to: Node, class: Class) -> LinkId {
+    LinkId { from, to, class }
+}
+
+fn shape(at_second: bool, legs: LegSet, dup: bool) -> Shape {
+    Shape {
+        at_second,
+        legs,
+        dup,
+    }
+}
+
+/// A plan of generation `g` that sets bearer 1 with 12-bit sequence numbers.
+fn plan(
+    alloc: Global,
+    g: u32,
+    sec: Option<Node>,
+    shape: Shape,
+    side: Side,
+    old: Option<Node>,
+) -> Result<Plan, Fail> {
+    let mut items = Seq::new(alloc);
+    items.push(Item::Set {
+        id: first_bearer()?,
+        n: SnLen::S12,
+        first: 0,
+        shape,
+        threshold: 0,
+        policy: 0,
+        key: KeyName { root: 0, side },
+        old,
+    })?;
+    Ok(Plan { g, sec, items })
+}
+
+/// Whether the lines are written as the texts.
+fn are_written(rt: &impl Abort, alloc: Global, rows: &[(Line, &str)]) -> Result<(), Fail> {
+    for (line, text) in rows {
+        let written = write_line(alloc, line)?;
+        assert_eq!(rt; written.as_slice(), text.as_bytes(), "{text}");
+    }
+    Ok(())
+}
+
+#[test]
+fn events_answers_and_notes_are_written(rt: HostRuntime) -> Result<(), Fail> {
+    let id = first_bearer()?;
+    let sdu = Octets::from_slice(rt.alloc(), b"hi")?;
+    let given = Octets::from_slice(rt.alloc(), b"hi")?;
+    let bearer = Event::Bearer {
+        id,
+        n: SnLen::S18,
+        first: 5,
+        shape: shape(false, LegSet::Split(Cell::Mcg), true),
+        threshold: 1400,
+        policy: 2,
+    };
+    let rows = [
+        (Line::Event(bearer), "bearer 1 18 5 mxmd 1400 2"),
+        (Line::Event(Event::RekeySecond), "rekey s"),
+        (
+            Line::Event(Event::Submit {
+                id,
+                dir: Dir::Dl,
+                sdu,
+            }),
+            "dl 1 6869",
+        ),
+        (
+            Line::Event(Event::Step {
+                link: link(Node::M, Node::T, Class::Air),
+                index: 0,
+            }),
+            "step mt.air 0",
+        ),
+        (
+            Line::Event(Event::Deny {
+                node: Node::A,
+                on: true,
+            }),
+            "deny a on",
+        ),
+        (
+            Line::Event(Event::Ask {
+                node: Node::A,
+                what: Want::Rekey,
+            }),
+            "want a rekey",
+        ),
+        (Line::Answer(Answer::Ok), "= ok"),
+        (Line::Answer(Answer::No(Refusal::NoFlight)), "= no noflight"),
+        (
+            Line::Note(Note::Own {
+                node: Node::M,
+                id,
+                g: 1,
+            }),
+            "- own m 1 1",
+        ),
+        (
+            Line::Note(Note::Up {
+                node: Node::T,
+                id,
+                dir: Dir::Dl,
+                count: 0,
+                sdu: given,
+            }),
+            "- up t 1 dl 0 6869",
+        ),
+        (
+            Line::Note(Note::Freed {
+                id,
+                dir: Dir::Dl,
+                count: 2,
+            }),
+            "- freed 1 dl 2",
+        ),
+        (
+            Line::Note(Note::Refused {
+                node: Node::A,
+                word: Word::Busy,
+            }),
+            "- refused a busy",
+        ),
+        (Line::Note(Note::Done), "- done"),
+    ];
+    are_written(&rt, rt.alloc(), &rows)
+}
+
+#[test]
+fn flights_are_written(rt: HostRuntime) -> Result<(), Fail> {
+    let id = first_bearer()?;
+    let pdu = Octets::from_slice(rt.alloc(), &[0x80, 0, 0x68, 0x69])?;
+    let report = Octets::from_slice(rt.alloc(), &[0, 0, 0, 0, 2])?;
+    let packet = Octets::from_slice(
+        rt.alloc(),
+        &[0x30, 0xff, 0, 5, 0, 0, 1, 0x80, 0, 0, 0, 0, 2],
+    )?;
+    let rows = [
+        (
+            Line::Send(
+                link(Node::M, Node::T, Class::Air),
+                Flight::Air {
+                    id,
+                    g: 1,
+                    num: 0,
+                    tag: Tag::count(0),
+                    pdu,
+                },
+            ),
+            "- send mt.air pdu 1 1 0 0 80006869",
+        ),
+        (
+            Line::Send(
+                link(Node::T, Node::A, Class::Air),
+                Flight::Air {
+                    id,
+                    g: 3,
+                    num: 0,
+                    tag: Tag::none(),
+                    pdu: report,
+                },
+            ),
+            "- send ta.air ctl 1 3 0 0000000002",
+        ),
+        (
+            Line::Send(
+                link(Node::A, Node::M, Class::Tun),
+                Flight::Tun {
+                    tag: Tag::none(),
+                    packet,
+                },
+            ),
+            "- send am.tun gtp - 30ff0005000001800000000002",
+        ),
+        (
+            Line::Send(
+                link(Node::T, Node::M, Class::Air),
+                Flight::Ack { id, g: 1, num: 1 },
+            ),
+            "- send tm.air ack 1 1 1",
+        ),
+    ];
+    are_written(&rt, rt.alloc(), &rows)
+}
+
+#[test]
+fn records_are_written(rt: HostRuntime) -> Result<(), Fail> {
+    let id = first_bearer()?;
+    let set_up = plan(
+        rt.alloc(),
+        1,
+        None,
+        shape(false, LegSet::Mcg, false),
+        Side::Master,
+        None,
+    )?;
+    let moved = plan(
+        rt.alloc(),
+        3,
+        Some(Node::A),
+        shape(true, LegSet::Scg, false),
+        Side::Second(0),
+        Some(Node::M),
+    )?;
+    let bits = Octets::from_slice(rt.alloc(), &[0x80])?;
+    let mut failed = Seq::new(rt.alloc());
+    failed.push((id, 3))?;
+    let (down, up) = (
+        link(Node::M, Node::A, Class::Ctl),
+        link(Node::T, Node::M, Class::Ctl),
+    );
+    let status = StatusTransfer {
+        g: 3,
+        id,
+        ul: 0,
+        bits,
+        dl: 2,
+    };
+    let rows = [
+        (
+            Line::Send(
+                link(Node::M, Node::T, Class::Ctl),
+                Flight::Ctl(Rec::Reconf {
+                    plan: set_up,
+                    key: [0; 32],
+                }),
+            ),
+            "- send mt.ctl reconf 1 - 1/12/0/mm/0/0/m0/-",
+        ),
+        (
+            Line::Send(
+                down,
+                Flight::Ctl(Rec::Modreq {
+                    plan: moved,
+                    key: [0; 32],
+                }),
+            ),
+            "- send ma.ctl modreq 3 a 1/12/0/ss/0/0/s0.0/m",
+        ),
+        (
+            Line::Send(down, Flight::Ctl(Rec::Snst { status })),
+            "- send ma.ctl snst 3 1 0 80 2",
+        ),
+        (
+            Line::Send(up, Flight::Ctl(Rec::Scgf { failed })),
+            "- send tm.ctl scgf 1/3",
+        ),
+        (
+            Line::Send(up, Flight::Ctl(Rec::Rcomp { g: 1 })),
+            "- send tm.ctl rcomp 1",
+        ),
+    ];
+    are_written(&rt, rt.alloc(), &rows)
+}
+
+#[test]
+fn a_header_is_written(rt: HostRuntime) -> Result<(), Fail> {
+    let header = Header {
+        alg: Alg::Nea0,
+        used: 0,
+        root: [0; 32],
+    };
+    let written = write_header(rt.alloc(), &header)?;
+    assert_eq!(rt;
+        written.as_slice(),
+        b"dcs1 nea0 0 0000000000000000000000000000000000000000000000000000000000000000".as_slice()
+    );
+    Ok(())
+}
