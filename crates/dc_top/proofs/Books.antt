@@ -1,14 +1,13 @@
 -- What a transcript of the one bearer says so far, and what one more entry adds.
-use Rattle.std.proofs.Common.{ℕ, ◌≡◌, ◌+◌, ◌++◌, Bool, true, false, List, [], ◌∷◌, Some, None, Option, refl, sym, ap, ◌∙◌}
+use Rattle.std.proofs.Common.{ℕ, ◌≡◌, ◌+◌, ◌++◌, true, List, [], ◌∷◌, Some, ap, ◌∙◌}
 use Rattle.std.specs.Prelude.{if◌then◌else◌, filter, nat_le}
 use Rattle.std.specs.List.{flat_map}
-use Rattle.std.proofs.lemmas.List.{append-nil}
 use Rattle.dc_base.specs.declared.numbers.SnLen.TheVariants.{S12}
 use Rattle.dc_base.specs.declared.nodes.Dir.TheVariants.{Ul, Dl}
 use Rattle.dc_base.specs.declared.flights.Flight.{Flight}
 use Rattle.transcript.specs.Transcript.{Entry, gathered}
 use Rattle.transcript.specs.Content.{content, content_after, mt_air}
-use Rattle.transcript.specs.Bearers.{Established, established, established_by, generation, latest, is_named, is_latest, is_generation_of, plans, plan_of, plan_drawn, submission, submission_of, submitted, ups, up_of, handed, freed_of, frees, told}
+use Rattle.transcript.specs.Bearers.{Established, established, established_by, generation, latest, is_named, is_latest, is_generation_of, plans, plan_of, plan_drawn, submission, submission_of, submitted, ups, up_of, handed, freed_of, frees}
 use Rattle.transcript.proofs.Growing.{gathered-next, content-next}
 use Rattle.dc_top.specs.Nodes.{opening_plan}
 

@@ -1,8 +1,6 @@
 -- The claims of a transcript of the one bearer, carried from entry to entry.
-use Rattle.std.proofs.Common.{ℕ, zero, suc, ◌≡◌, ◌+◌, ◌-◌, ◌^◌, ◌<◌, ◌≤◌, ◌++◌, Bool, true, false, List, [], ◌∷◌, Some, None, length, take, drop, refl, sym, ap, ◌∙◌, subst, arith}
-use Rattle.std.specs.Prelude.{nat_le, nat_lt, fold, max, ◌==◌, if◌then◌else◌, slice_get, Contains, slice_index_or}
-use Rattle.std.specs.Option.{option_map}
-use Rattle.std.specs.List.{AllByRecursion}
+use Rattle.std.proofs.Common.{ℕ, zero, suc, ◌≡◌, ◌+◌, ◌-◌, ◌^◌, ◌<◌, ◌++◌, List, [], ◌∷◌, length, take, drop, sym, ap, ◌∙◌, subst, arith}
+use Rattle.std.specs.Prelude.{nat_le, fold, max, ◌==◌, if◌then◌else◌, Contains, slice_index_or}
 use Rattle.std.proofs.lemmas.List.{take-append-drop}
 use Rattle.dc_base.specs.Count.{window}
 use Rattle.dc_base.specs.declared.numbers.SnLen.TheVariants.{S12}
@@ -14,10 +12,9 @@ use Rattle.dc_base.specs.declared.answers.Answer.TheVariants.{Ok, No}
 use Rattle.dc_base.specs.declared.answers.Refusal.TheVariants.{Full, Exhausted, NoFlight}
 use Rattle.dc_base.specs.declared.events.Event.TheVariants.{Step, Submit}
 use Rattle.transcript.specs.Transcript.{Entry, Each}
-use Rattle.transcript.specs.Content.{content, mt_air}
-use Rattle.transcript.specs.Bearers.{Established, established, plans, submitted, handed, ups, numbered, told}
+use Rattle.transcript.specs.Content.{mt_air}
+use Rattle.transcript.specs.Bearers.{Established, established, plans, submitted, numbered}
 use Rattle.transcript.specs.Claims.{Protects, Carried, Prefix, HasCause, IsLicensed, IsComplete, IsFaithful, due_answer, submit_answer}
-use Rattle.transcript.proofs.Growing.{Each-next}
 use Rattle.dc_top.specs.Nodes.{opening_plan}
 use Rattle.dc_top.proofs.Lane.{numbered-append}
 use Rattle.dc_top.proofs.Books.{bearer, IsBook, established_is, latest_is}
@@ -37,7 +34,7 @@ pub prefix_now : (t : List Entry) (e : Entry) (accepted : List (List ℕ)) (k : 
 prefix_now t e accepted k air b =
     let rest = numbered (0 + length (take k accepted)) (drop k accepted) in
     let front : numbered 0 accepted ≡ numbered 0 (take k accepted) ++ rest =
-        ap (numbered 0) (sym (take-append-drop k accepted)) ∙ numbered-append 0 (take k accepted) (drop k accepted) in
+    ap (numbered 0) (sym (take-append-drop k accepted)) ∙ numbered-append 0 (take k accepted) (drop k accepted) in
     (rest, ap (numbered 0) b.down ∙ front ∙ ap (λ (xs : List (ℕ × List ℕ)). xs ++ rest) (sym b.handed_down))
 
 pub prefix_uplink_now : (t : List Entry) (e : Entry) (accepted : List (List ℕ)) (up : List (ℕ × List ℕ)) (air : List Flight) → IsBook (t ++ e ∷ []) accepted up air → Prefix bearer Ul t e
@@ -52,7 +49,7 @@ pub due_submission : (t : List Entry) (accepted : List (List ℕ)) (up : List (�
 due_submission t accepted up air p b =
     ap (submit_answer Dl t) (latest_is t b.planned)
     ∙ ap (λ k. if nat_le (k + window S12) (0 + length (submitted bearer Dl t)) then No Full else if (0 + length (submitted bearer Dl t)) == 2 ^ 32 - 1 then No Exhausted else Ok)
-      (ap (λ cs. fold max 0 cs) b.untold)
+    (ap (λ cs. fold max 0 cs) b.untold)
     ∙ ap (λ (xs : List (List ℕ)). submission_due (length xs)) b.down
 
 pub due_delivery : (t : List Entry) (accepted : List (List ℕ)) (up : List (ℕ × List ℕ)) (air : List Flight) (i : ℕ) → IsBook t accepted up air
@@ -70,7 +67,7 @@ contained b (k, less, is) = at_place b k less is
 pub faithful : (h : Header) (t : List Entry) → plans t ≡ opening_plan ∷ [] → HasClaims h t → IsComplete bearer t → IsFaithful h t
 faithful h t planned claims complete =
     let is : (b : Established) → Contains (established t) b → bearer ≡ b =
-        λ b there. sym (contained b (subst (λ bs. Contains bs b) (established_is t planned) there)) in
+    λ b there. sym (contained b (subst (λ bs. Contains bs b) (established_is t planned) there)) in
     record {
       protects = λ b d there. subst (λ x. Each (Protects h x d) t) (is b there) (elim d as (λ d. Each (Protects h bearer d) t) [ Ul ↦ claims.protects_uplink | Dl ↦ claims.protects ]);
       carried = λ b d there. subst (λ x. Each (Carried x d) t) (is b there) (elim d as (λ d. Each (Carried bearer d) t) [ Ul ↦ claims.carried_uplink | Dl ↦ claims.carried ]);

@@ -1,6 +1,5 @@
 -- A flight that is given to the terminal.
-use Rattle.std.proofs.Common.{ℕ, ◌≡◌, ◌+◌, ◌-◌, ◌^◌, ◌<◌, ◌≤◌, ◌⊎◌, ◌++◌, true, List, [], ◌∷◌, Some, length, take, map, slice_get, refl, sym, ap, ◌∙◌, subst, arith, inl, inr}
-use Rattle.std.specs.Prelude.{nat_le, if◌then◌else◌}
+use Rattle.std.proofs.Common.{ℕ, ◌≡◌, ◌<◌, ◌≤◌, ◌++◌, List, [], ◌∷◌, Some, length, take, map, slice_get, refl, sym, ap, ◌∙◌, subst, arith, inl, inr}
 use Rattle.std.specs.Option.{option_map}
 use Rattle.std.specs.List.{AllByRecursion, remove}
 use Rattle.std.proofs.lemmas.List.{append-nil}
@@ -13,21 +12,20 @@ use Rattle.dc_base.specs.declared.nodes.LinkId.{LinkId}
 use Rattle.dc_base.specs.declared.flights.Flight.{Flight}
 use Rattle.dc_base.specs.declared.events.Header.{Header}
 use Rattle.dc_base.specs.declared.events.Line.{Line}
-use Rattle.dc_base.specs.declared.answers.Answer.TheVariants.{Ok, No}
-use Rattle.dc_base.specs.declared.answers.Refusal.TheVariants.{NoFlight}
+use Rattle.dc_base.specs.declared.answers.Answer.TheVariants.{Ok}
 use Rattle.dc_base.specs.declared.events.Event.TheVariants.{Step}
 use Rattle.pdcp_pdu.specs.DataPdu.{data_pdu}
 use Rattle.pdcp_rx.specs.declared.entity.RxParts.{RxParts}
-use Rattle.pdcp_rx.specs.Receiver.{put, Received}
+use Rattle.pdcp_rx.specs.Receiver.{put, handed_of, Received}
 use Rattle.transcript.specs.Transcript.{Entry, sends, SomeEntry}
-use Rattle.transcript.specs.Content.{content, content_after, given, put_on, mt_air, tm_air}
-use Rattle.transcript.specs.Bearers.{ups, numbered}
-use Rattle.transcript.specs.Claims.{Protects, IsDataFlight, IsProtected, Carried, Prefix, TakesData, HasCause, IsLicensed, IsReason, due_answer}
+use Rattle.transcript.specs.Content.{given, mt_air}
+use Rattle.transcript.specs.Bearers.{numbered}
+use Rattle.transcript.specs.Claims.{Protects, IsDataFlight, IsProtected, Carried, Prefix, TakesData, HasCause, IsLicensed, IsReason}
 use Rattle.transcript.proofs.OnEach.{each_weaker}
 use Rattle.transcript.proofs.Growing.{Each-next, SomeEntry-later, SomeEntry-last}
-use Rattle.dc_top.specs.Nodes.{ciphered, data_flight, received, put_lines, up_line, ack_line}
-use Rattle.dc_top.specs.Run.{WorldState, Outcome}
-use Rattle.dc_top.proofs.Lane.{IsLane, IsSent, IsNumbered, run_of, received_is, deliver_keeps, put_handed, Received-only}
+use Rattle.dc_top.specs.Nodes.{ciphered, data_flight, received, up_line, ack_line}
+use Rattle.dc_top.specs.Run.{WorldState}
+use Rattle.dc_top.proofs.Lane.{IsSent, IsNumbered, received_is, deliver_keeps, put_handed, Received-only}
 use Rattle.dc_top.proofs.Books.{bearer, IsBook, is_generation_is, ups_are, uplink_ups_are, book_next}
 use Rattle.dc_top.proofs.Claiming.{HasClaims, prefix_now, prefix_uplink_now, due_delivery}
 use Rattle.dc_top.proofs.Traffic.{IsSound, put_lines_are, sends_after_ups, ups_of_lines, no_uplink_ups, no_freed, puts_after_ups, put_below, is_data_pdu, not_le}
@@ -37,7 +35,7 @@ module _ (h : Header) (t : List Entry) (w : WorldState) (s : IsSound h t w) (i :
   rx' = (put w.rx sent.count sent.payload).0
 
   abbrev run : List (ℕ × List ℕ)
-  run = run_of (put w.rx sent.count sent.payload).1
+  run = handed_of (put w.rx sent.count sent.payload).1
 
   abbrev lines : List Line
   lines = map up_line run ++ ack_line sent.count ∷ []
@@ -101,23 +99,26 @@ module _ (h : Header) (t : List Entry) (w : WorldState) (s : IsSound h t w) (i :
             (subst (AllByRecursion (λ x. IsDataFlight t' bearer Ul x → IsProtected h t' bearer Ul x)) (sym sends_are) ((λ is. absurd is), tt));
         carried = Each-next (Carried bearer Dl) t delivery c.carried
             (subst (AllByRecursion (λ u. SomeEntry (TakesData bearer Dl u.0) t'))
-              (sym (ups_are t s.accepted up w.air b delivery ∙ ups_of_lines (ack_line sent.count ∷ []) run refl))
-              (each_weaker (λ u. u.0 < rx'.deliv) (λ u. SomeEntry (TakesData bearer Dl u.0) t') (λ u below. came_after u.0 (inl below)) run (put_below w.rx sent.count sent.payload)));
+            (sym (ups_are t s.accepted up w.air b delivery ∙ ups_of_lines (ack_line sent.count ∷ []) run refl))
+            (each_weaker (λ u. u.0 < rx'.deliv) (λ u. SomeEntry (TakesData bearer Dl u.0) t') (λ u below. came_after u.0 (inl below)) run (put_below w.rx sent.count sent.payload)));
         carried_uplink = Each-next (Carried bearer Ul) t delivery c.carried_uplink
             (subst (AllByRecursion (λ u. SomeEntry (TakesData bearer Ul u.0) t'))
-              (sym (uplink_ups_are t s.accepted up w.air b delivery ∙ no_uplink_ups (ack_line sent.count ∷ []) run refl)) tt);
+            (sym (uplink_ups_are t s.accepted up w.air b delivery ∙ no_uplink_ups (ack_line sent.count ∷ []) run refl)) tt);
         prefix = Each-next (Prefix bearer Dl) t delivery c.prefix (prefix_now t delivery s.accepted rx'.deliv (remove w.air i) b');
         prefix_uplink = Each-next (Prefix bearer Ul) t delivery c.prefix_uplink (prefix_uplink_now t delivery s.accepted (numbered 0 (take rx'.deliv s.accepted)) (remove w.air i) b');
         causes = Each-next HasCause t delivery c.causes
             (sym (due_delivery t s.accepted up w.air i b ∙ cond-false _ _ _ (not_le (length w.air) i within)));
         licence = Each-next (IsLicensed h) t delivery c.licence (record {
-          reasons = subst (AllByRecursion (IsReason h t delivery)) (sym sends_are) (record {
-            from = mt_air;
-            back = refl;
-            tag = Some sent.count;
-            pdu = data_pdu S12 (sn S12 sent.count) (ciphered h sent.count sent.payload);
-            is_given = given_is;
-          }, tt);
+          reasons = subst (AllByRecursion (IsReason h t delivery)) (sym sends_are) (
+            record {
+              from = mt_air;
+              back = refl;
+              tag = Some sent.count;
+              pdu = data_pdu S12 (sn S12 sent.count) (ciphered h sent.count sent.payload);
+              is_given = given_is;
+            },
+            tt,
+          );
           one = subst (λ (xs : List (LinkId × Flight)). length xs ≤ 1) (sym sends_are) (omega arith);
         });
       }
@@ -139,8 +140,8 @@ deliver_sound h t w s i f at sent =
     let within = slice_get_within s.accepted sent.count sent.payload sent.submission in
     let counted = s.lane.counted in let room = s.lane.room in let upto = s.lane.receiving.upto in
     let is : received w.header w.rx f ≡ (rx' h t w s i f at sent, lines h t w s i f at sent) =
-        ap (λ x. received x w.rx f) s.lane.header
-        ∙ received_is h s.accepted w.rx f sent (omega arith) (omega arith)
-        ∙ ap (λ ls. ((put w.rx sent.count sent.payload).0, ls ++ ack_line sent.count ∷ [])) (put_lines_are (put w.rx sent.count sent.payload).1) in
+    ap (λ x. received x w.rx f) s.lane.header
+    ∙ received_is h s.accepted w.rx f sent (omega arith) (omega arith)
+    ∙ ap (λ ls. ((put w.rx sent.count sent.payload).0, ls ++ ack_line sent.count ∷ [])) (put_lines_are (put w.rx sent.count sent.payload).1) in
     let Q : RxParts × List Line → Type 0 = λ q. IsSound h (t ++ record { event = Step mt_air i; answer = Ok; lines = q.1 } ∷ []) (record w { rx = q.0; air = remove w.air i }) in
     subst Q (sym is) (delivery_sound h t w s i f at sent)

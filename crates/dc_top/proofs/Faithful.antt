@@ -1,32 +1,29 @@
 -- The run theorem: the transcript of every script that `run` takes meets the claims.
-use Rattle.std.proofs.Common.{ℕ, zero, suc, ◌≡◌, ◌+◌, ◌<◌, ◌≤◌, ◌++◌, List, [], ◌∷◌, Option, Some, None, length, take, slice_get, refl, sym, ap, ◌∙◌, subst, arith, inl, inr, append_assoc}
-use Rattle.std.specs.Prelude.{nat_lt, Contains}
-use Rattle.std.specs.List.{AllByRecursion}
+use Rattle.std.proofs.Common.{ℕ, zero, suc, ◌≡◌, ◌+◌, ◌≤◌, ◌++◌, List, [], ◌∷◌, Option, Some, None, length, slice_get, refl, sym, ap, ◌∙◌, subst, arith, append_assoc}
+use Rattle.std.specs.Prelude.{nat_lt}
 use Rattle.std.proofs.lemmas.List.{append-nil, take_all}
 use Rattle.std.proofs.lemmas.Bool.{cond_both, ltb-true, ltb-false}
-use Rattle.std.proofs.lemmas.Option.{none-some}
 use Rattle.dc_base.specs.Count.{window}
 use Rattle.dc_base.specs.declared.numbers.SnLen.TheVariants.{S12}
 use Rattle.dc_base.specs.declared.nodes.Dir.TheVariants.{Dl}
 use Rattle.dc_base.specs.declared.flights.Flight.{Flight}
 use Rattle.dc_base.specs.declared.answers.Answer.TheVariants.{Ok, No}
-use Rattle.dc_base.specs.declared.answers.Refusal.TheVariants.{Full, NoFlight}
+use Rattle.dc_base.specs.declared.answers.Refusal.TheVariants.{Full}
 use Rattle.dc_base.specs.declared.events.Header.{Header}
 use Rattle.dc_base.specs.declared.events.Event.{Event}
 use Rattle.dc_base.specs.declared.events.Event.TheVariants.{Step, Submit}
 use Rattle.dc_base.specs.declared.events.Line.TheVariants as line
 use Rattle.pdcp_pdu.specs.DataPdu.{IsPayload}
 use Rattle.transcript.specs.Transcript.{Entry}
-use Rattle.transcript.specs.Content.{content, mt_air}
-use Rattle.transcript.specs.Bearers.{submitted, handed, numbered}
-use Rattle.transcript.specs.Claims.{IsComplete, IsFaithful}
+use Rattle.transcript.specs.Content.{mt_air}
+use Rattle.transcript.specs.Bearers.{numbered}
+use Rattle.transcript.specs.Claims.{IsFaithful}
 use Rattle.transcript.proofs.OnEach.{each_at}
-use Rattle.dc_top.specs.Opening.{bearer_event, first_step, second_step, IsTraffic, submits, delivers, MayStandAt, MayStandFrom}
+use Rattle.dc_top.specs.Opening.{bearer_event, first_step, IsTraffic, submits, delivers, MayStandFrom}
 use Rattle.dc_top.specs.Nodes.{data_flight}
-use Rattle.dc_top.specs.Run.{WorldState, Outcome, new_world, happen, entry_of, world_after, entries_from, submit, deliver, deliver_at}
+use Rattle.dc_top.specs.Run.{WorldState, Outcome, new_world, happen, entry_of, world_after, entries_from, submit, deliver_at}
 use Rattle.dc_top.proofs.Lane.{IsSent, window_of_12, all_delivered}
-use Rattle.dc_top.proofs.Books.{bearer}
-use Rattle.dc_top.proofs.Claiming.{HasClaims, faithful}
+use Rattle.dc_top.proofs.Claiming.{faithful}
 use Rattle.dc_top.proofs.Traffic.{IsSound, submit_sound}
 use Rattle.dc_top.proofs.Refusals.{full_sound, no_flight_sound}
 use Rattle.dc_top.proofs.Deliveries.{deliver_sound}

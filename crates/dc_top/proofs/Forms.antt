@@ -1,5 +1,5 @@
 -- The words of the command line.
-use Rattle.std.proofs.Common.{ℕ, zero, suc, ◌≡◌, ◌≤◌, ◌<◌, Bool, true, List, [], ◌∷◌, length, map, refl, sym, ap, ◌∙◌, arith}
+use Rattle.std.proofs.Common.{ℕ, ◌≡◌, ◌≤◌, ◌<◌, Bool, true, List, [], ◌∷◌, length, map, sym, ap, ◌∙◌, arith}
 use Rattle.std.specs.Prelude.{slice_index_or, bytes_eq}
 use Rattle.std.proofs.lemmas.Slice.Eq.{bytes_eq-Decides}
 
@@ -14,6 +14,7 @@ pub only_word : {A : Type 0} (f : A → List ℕ) (xs : List A) (x : A) (r : Boo
     → r ≡ bytes_eq (f x) text → (r ≡ true → map f xs ≡ text ∷ []) × (map f xs ≡ text ∷ [] → r ≡ true)
 only_word f xs x r text least most is tested =
     let one = map-one f xs x least most is in
-    let decides = bytes_eq-Decides (f x) text in
-    (λ yes'. one ∙ ap (λ z. z ∷ []) (decides.0 (sym tested ∙ yes')),
-     λ same. tested ∙ decides.1 (let both : f x ∷ [] ≡ text ∷ [] = sym one ∙ same in cc))
+    let decides = bytes_eq-Decides (f x) text in (
+      λ yes'. one ∙ ap (λ z. z ∷ []) (decides.0 (sym tested ∙ yes')),
+      λ same. tested ∙ decides.1 (let both : f x ∷ [] ≡ text ∷ [] = sym one ∙ same in cc),
+    )

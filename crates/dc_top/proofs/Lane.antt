@@ -1,36 +1,33 @@
 -- The bearer's downlink as one sender, one link and one receiver: what every event keeps.
-use Rattle.std.proofs.Common.{ℕ, zero, suc, ◌≡◌, ◌+◌, ◌*◌, ◌-◌, ◌^◌, ◌<◌, ◌≤◌, ◌⊎◌, ◌==◌, ◌++◌, Bool, true, false, List, [], ◌∷◌, Option, Some, None, length, map, take, drop, slice_get, refl, sym, ap, ◌∙◌, subst, arith, inl, inr, append_assoc}
-use Rattle.std.specs.Prelude.{nat_lt, Ok, Result}
+use Rattle.std.proofs.Common.{ℕ, zero, suc, ◌≡◌, ◌+◌, ◌-◌, ◌^◌, ◌<◌, ◌≤◌, ◌⊎◌, ◌==◌, ◌++◌, true, false, List, [], ◌∷◌, Some, length, take, drop, slice_get, refl, sym, ap, ◌∙◌, subst, arith, inl, inr, append_assoc}
+use Rattle.std.specs.Prelude.{Ok}
 use Rattle.std.specs.List.{AllByRecursion, remove}
-use Rattle.std.proofs.lemmas.List.{append-nil, take-append-le, length_push, length-take-le, take_all}
+use Rattle.std.proofs.lemmas.List.{append-nil, length_push, length-take-le}
 use Rattle.std.proofs.lemmas.Option.{same_Some, slice_get_within}
 use Rattle.std.proofs.lemmas.Bool.Decides.{nat_tests}
-use Rattle.std.proofs.lemmas.Bool.{eqb-true, cases_Bool, cond-false, cases_lt, true≢false}
-use Rattle.dc_base.specs.Count.{modulus, window, sn, count_for, IsCountFor}
-use Rattle.dc_base.specs.declared.numbers.SnLen.{SnLen}
+use Rattle.std.proofs.lemmas.Bool.{eqb-true, cases_Bool, cond-false, cases_lt}
+use Rattle.dc_base.specs.Count.{modulus, window, sn, count_for}
 use Rattle.dc_base.specs.declared.numbers.SnLen.TheVariants.{S12}
 use Rattle.dc_base.specs.declared.events.Header.{Header}
 use Rattle.dc_base.specs.declared.events.Line.{Line}
 use Rattle.dc_base.specs.declared.flights.Flight.{Flight}
-use Rattle.dc_base.proofs.Counting.{count_for_is, sn_small}
+use Rattle.dc_base.proofs.Counting.{sn_small}
 use Rattle.pdcp_pdu.specs.DataPdu.{IsPayload, data_pdu}
-use Rattle.pdcp_pdu.specs.declared.pdu.PduErr.{PduErr}
-use Rattle.pdcp_pdu.specs.Pdu.{Content, sdu, decoded}
+use Rattle.pdcp_pdu.specs.Pdu.{sdu, decoded}
 use Rattle.pdcp_pdu.proofs.Reading.{data_again}
-use Rattle.pdcp_rx.specs.Entries.{Entry, AscendFrom, is_stored, with_sdu}
+use Rattle.pdcp_rx.specs.Entries.{AscendFrom, is_stored, with_sdu}
 use Rattle.pdcp_rx.specs.Run.{run_from}
-use Rattle.pdcp_rx.specs.declared.entity.Put.{Put}
-use Rattle.pdcp_rx.specs.declared.entity.Put.TheVariants.{Stored, Old, Again}
 use Rattle.pdcp_rx.specs.declared.entity.RxParts.{RxParts}
-use Rattle.pdcp_rx.specs.Receiver.{put, handed_up, Received}
-use Rattle.pdcp_rx.proofs.Entries.{AscendFrom-weaker, AscendFrom-with_sdu, stored_from, is_stored-with_sdu, is_stored-with_sdu_same, each_with_sdu, each_drop}
+use Rattle.pdcp_rx.specs.Receiver.{put, handed_of, Received}
+use Rattle.pdcp_rx.proofs.Laws.{n-put, Received-put, Received-put_same, sent_inferred}
+use Rattle.pdcp_rx.proofs.Entries.{AscendFrom-weaker, AscendFrom-with_sdu, stored_from, each_with_sdu, each_drop}
 use Rattle.pdcp_rx.proofs.Runs.{ascends_past_run}
 use Rattle.pdcp_rx.proofs.Putting.{put_cases}
 use Rattle.transcript.specs.Bearers.{numbered}
 use Rattle.transcript.specs.Claims.{HasTag}
-use Rattle.transcript.proofs.OnEach.{each_at, each_append, each_remove, each_weaker}
+use Rattle.transcript.proofs.OnEach.{each_append, each_remove, each_weaker}
 use Rattle.dc_top.specs.Nodes.{ciphered, data_flight, received, sdu_taken, with_count, pdu_taken, confirmed, put_lines, ack_line}
-use Rattle.dc_top.specs.Run.{WorldState, submit, deliver}
+use Rattle.dc_top.specs.Run.{WorldState}
 use Rattle.dc_top.proofs.Combining.{ciphered_twice, length-ciphered}
 
 pub window_of_12 : window S12 ≡ 2048
@@ -74,11 +71,6 @@ pub record IsReceiving (submitted : List (List ℕ)) (next : ℕ) (r : RxParts) 
   pub ascends : AscendFrom (r.deliv + 1) r.stored
   pub stored : AllByRecursion (IsNumbered submitted next) r.stored
 
--- what a received SDU lets go up
-abbrev pub run_of : Put → List (ℕ × List ℕ)
-run_of (Stored run) = run
-run_of _ = []
-
 run_numbered : (submitted : List (List ℕ)) (next c : ℕ) (es : List (ℕ × List ℕ)) → next ≤ length submitted → c ≤ next → AllByRecursion (IsNumbered submitted next) es
     → numbered 0 (take c submitted) ++ run_from c es ≡ numbered 0 (take (c + length (run_from c es)) submitted)
 run_numbered submitted next c [] long le all = append-nil _ ∙ ap (λ k. numbered 0 (take k submitted)) (omega arith)
@@ -92,7 +84,7 @@ run_numbered submitted next c (e ∷ es) long le all =
           let grown : take (c + 1) submitted ≡ take c submitted ++ e.1 ∷ [] = ap (λ k. take k submitted) one ∙ take_next submitted c e.1 at_c in
           let count : 0 + length (take c submitted) ≡ e.0 = let len = length-take-le c submitted (omega arith) in omega arith in
           let more : numbered 0 (take (c + 1) submitted) ≡ numbered 0 (take c submitted) ++ e ∷ [] =
-              ap (numbered 0) grown ∙ numbered-append 0 (take c submitted) (e.1 ∷ []) ∙ ap (λ k. numbered 0 (take c submitted) ++ (k, e.1) ∷ []) count in
+          ap (numbered 0) grown ∙ numbered-append 0 (take c submitted) (e.1 ∷ []) ∙ ap (λ k. numbered 0 (take c submitted) ++ (k, e.1) ∷ []) count in
           let rest = run_numbered submitted next (c + 1) es long (omega arith) all.1 in
           let up : c + 1 + length (run_from (c + 1) es) ≡ c + suc (length (run_from (c + 1) es)) = omega arith in
           sym (append_assoc (numbered 0 (take c submitted)) (e ∷ []) (run_from (c + 1) es))
@@ -104,10 +96,6 @@ run_numbered submitted next c (e ∷ es) long le all =
 run_upto : (submitted : List (List ℕ)) (next c : ℕ) (es : List (ℕ × List ℕ)) → c ≤ next → AllByRecursion (IsNumbered submitted next) es → c + length (run_from c es) ≤ next
 run_upto submitted next c [] le all = omega arith
 run_upto submitted next c (e ∷ es) le all = let below = all.0.below in grind (arith, nat_tests, run_upto submitted next (c + 1) es)
-
-stored_or_run : (c r : ℕ) (es : List (ℕ × List ℕ)) → is_stored c es ≡ true → (c < r + length (run_from r es)) ⊎ (is_stored c (drop (length (run_from r es)) es) ≡ true)
-stored_or_run c r [] h = absurd cc
-stored_or_run c r (e ∷ es) h = grind (arith, nat_tests, stored_or_run c (r + 1) es)
 
 module _ (submitted : List (List ℕ)) (next : ℕ) (long : next ≤ length submitted) where
   pub put_keeps : (r : RxParts) (c : ℕ) (p : List ℕ) → IsReceiving submitted next r → IsNumbered submitted next (c, p) → IsReceiving submitted next (put r c p).0
@@ -124,26 +112,10 @@ module _ (submitted : List (List ℕ)) (next : ℕ) (long : next ≤ length subm
 
   -- what goes up continues what went up
   pub put_handed : (r : RxParts) (c : ℕ) (p : List ℕ) → IsReceiving submitted next r → IsNumbered submitted next (c, p)
-      → numbered 0 (take r.deliv submitted) ++ run_of (put r c p).1 ≡ numbered 0 (take (put r c p).0.deliv submitted)
+      → numbered 0 (take r.deliv submitted) ++ handed_of (put r c p).1 ≡ numbered 0 (take (put r c p).0.deliv submitted)
   put_handed r c p s n =
-      put_cases (λ q. numbered 0 (take r.deliv submitted) ++ run_of q.1 ≡ numbered 0 (take q.0.deliv submitted)) r c p (λ old. append-nil _) (λ le again. append-nil _)
+      put_cases (λ q. numbered 0 (take r.deliv submitted) ++ handed_of q.1 ≡ numbered 0 (take q.0.deliv submitted)) r c p (λ old. append-nil _) (λ le again. append-nil _)
       (λ le new. run_numbered submitted next r.deliv (with_sdu c p r.stored) long s.upto (each_with_sdu (IsNumbered submitted next) c p r.stored n s.stored))
-
-pub put_length : (r : RxParts) (c : ℕ) (p : List ℕ) → (put r c p).0.n ≡ r.n
-put_length r c p = put_cases (λ q. q.0.n ≡ r.n) r c p (λ old. refl) (λ le again. refl) (λ le new. refl)
-
-pub Received-put : (r : RxParts) (c d : ℕ) (p : List ℕ) → Received r d → Received (put r c p).0 d
-Received-put r c d p h =
-    put_cases (λ q. Received q.0 d) r c p (λ old. h) (λ le again. h) (λ le new.
-    elim h [
-      | inl below ↦ inl (omega arith)
-      | inr stored ↦ stored_or_run d r.deliv (with_sdu c p r.stored) (is_stored-with_sdu d c p r.stored stored)
-    ])
-
-pub Received-put_same : (r : RxParts) (c : ℕ) (p : List ℕ) → Received (put r c p).0 c
-Received-put_same r c p =
-    put_cases (λ q. Received q.0 c) r c p (λ old. inl old) (λ le again. inr again)
-    (λ le new. stored_or_run c r.deliv (with_sdu c p r.stored) (is_stored-with_sdu_same c p r.stored))
 
 -- and nothing else than c becomes received
 is_stored-with_sdu_other : (b c : ℕ) (p : List ℕ) (es : List (ℕ × List ℕ)) → is_stored b (with_sdu c p es) ≡ true → (b ≡ c) ⊎ (is_stored b es ≡ true)
@@ -165,7 +137,7 @@ Received-only r c d p =
     put_cases (λ q. Received q.0 d → (d ≡ c) ⊎ Received r d) r c p (λ old h. inr h) (λ le again h. inr h) (λ le new h.
     let es = with_sdu c p r.stored in
     let was : is_stored d es ≡ true → (d ≡ c) ⊎ Received r d =
-        λ there. elim (is_stored-with_sdu_other d c p r.stored there) [ inl same ↦ inl same | inr before ↦ inr (inr before) ] in
+    λ there. elim (is_stored-with_sdu_other d c p r.stored there) [ inl same ↦ inl same | inr before ↦ inr (inr before) ] in
     elim h [
       | inl below ↦ elim (cases_lt d r.deliv) [ inl under ↦ inr (inl under) | inr above ↦ was (run_stored r.deliv d es above below) ]
       | inr stored ↦ was (stored_before_drop (length (run_from r.deliv es)) d es stored)
@@ -237,8 +209,8 @@ received_is h submitted rx f s low small =
     let W = window_of_12 in
     let good : IsPayload body = record { some = subst (λ k. 1 ≤ k) (sym (length-ciphered h c p)) s.good.some; most = subst (λ k. k ≤ 9000) (sym (length-ciphered h c p)) s.good.most } in
     let done : sdu_taken h rx body c ≡ ((put rx c p).0, put_lines (put rx c p).1) =
-        cond-false _ _ _ (not_last c (omega arith)) ∙ ap (λ q. ((put rx c q).0, put_lines (put rx c q).1)) (ciphered_twice h c p) in
-    let found : count_for S12 rx.deliv shown ≡ Some c = count_for_is S12 rx.deliv shown c (omega arith) (record { low = omega arith; high = omega arith; shows = refl }) in
+    cond-false _ _ _ (not_last c (omega arith)) ∙ ap (λ q. ((put rx c q).0, put_lines (put rx c q).1)) (ciphered_twice h c p) in
+    let found : count_for S12 rx.deliv shown ≡ Some c = sent_inferred S12 rx.deliv c (omega arith) (omega arith) (omega arith) in
     ap (received h rx) s.is
     ∙ ap (λ r. let done = pdu_taken h rx r in (done.0, confirmed c done.1)) (decoded_pdu shown body (sn_small S12 c) good)
     ∙ ap (λ o. let done = with_count h rx body o in (done.0, done.1 ++ ack_line c ∷ [])) found
@@ -291,10 +263,10 @@ deliver_keeps h submitted w i f s at sent =
       counted = s.counted;
       room = s.room;
       flying = each_remove (IsSent h submitted) w.air i s.flying;
-      length_12 = put_length w.rx c p ∙ s.length_12;
+      length_12 = n-put w.rx c p ∙ s.length_12;
       receiving = put_keeps submitted w.next (omega arith) w.rx c p s.receiving n;
       owed = λ d lt. elim (s.owed d lt) [
-        | inl got ↦ inl (Received-put w.rx c d p got)
+        | inl got ↦ inl (Received-put w.rx d c p got)
         | inr way ↦ elim (under_way_but d i f w.air at way) [
           | inl it ↦
               let same : c ≡ d = same_Some c d (subst (HasTag d) sent.is it) in

@@ -1,18 +1,11 @@
 -- The three events that set the bearer up.
-use Rattle.std.proofs.Common.{ℕ, ◌≡◌, ◌+◌, ◌<◌, ◌≤◌, ◌++◌, List, [], ◌∷◌, Some, length, take, refl, sym, ap, ◌∙◌, arith, inl, inr}
-use Rattle.std.proofs.lemmas.List.{take_all}
-use Rattle.dc_base.specs.declared.nodes.Dir.TheVariants.{Ul, Dl}
+use Rattle.std.proofs.Common.{[], ◌∷◌, refl, arith, inl, inr}
 use Rattle.dc_base.specs.declared.events.Header.{Header}
-use Rattle.transcript.specs.Transcript.{Entry, SomeEntry}
-use Rattle.transcript.specs.Content.{mt_ctl, tm_ctl}
-use Rattle.transcript.specs.Bearers.{numbered}
-use Rattle.transcript.specs.Claims.{IsLicensed, TakesData}
-use Rattle.pdcp_rx.specs.Receiver.{Received}
+use Rattle.transcript.specs.Transcript.{Entry}
+use Rattle.transcript.specs.Claims.{IsLicensed}
 use Rattle.dc_top.specs.Opening.{bearer_event, first_step, second_step}
 use Rattle.dc_top.specs.Nodes.{opening_plan}
-use Rattle.dc_top.specs.Run.{WorldState, new_world, entry_of}
-use Rattle.dc_top.proofs.Lane.{IsLane, IsReceiving}
-use Rattle.dc_top.proofs.Books.{bearer, IsBook}
+use Rattle.dc_top.specs.Run.{new_world, entry_of}
 use Rattle.dc_top.proofs.Claiming.{HasClaims}
 use Rattle.dc_top.proofs.Traffic.{IsSound}
 

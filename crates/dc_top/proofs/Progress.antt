@@ -1,19 +1,18 @@
 -- What one more line adds to a run, and what a whole run is.
-use Rattle.std.proofs.Common.{ℕ, zero, suc, ◌≡◌, ◌+◌, ◌≤◌, ◌++◌, ◌⊎◌, List, [], ◌∷◌, length, map, refl, sym, ap, ◌∙◌, subst, arith, inl, inr, append_assoc, append-nil}
+use Rattle.std.proofs.Common.{ℕ, zero, suc, ◌≡◌, ◌+◌, ◌≤◌, ◌++◌, List, [], ◌∷◌, length, map, refl, sym, ap, ◌∙◌, subst, arith, inl, inr, append_assoc, append-nil}
 use Rattle.std.specs.Prelude.{◌≢◌, ◌==◌, false, true}
 use Rattle.std.specs.List.{flat_map}
 use Rattle.std.proofs.lemmas.List.{length_push, length-append}
 use Rattle.std.proofs.lemmas.Grind.{flat_map-append}
 use Rattle.std.proofs.lemmas.Bool.{eqb-true}
-use Rattle.pdcp_pdu.specs.DataPdu.{IsPayload}
 use Rattle.dc_base.specs.declared.events.Header.{Header}
 use Rattle.dc_base.specs.declared.events.Event.{Event}
 use Rattle.dc_base.specs.declared.events.Line.{Line}
 use Rattle.transcript.specs.Text.{header_text, event_text, script_text, ended, mark, line_text, lines_text}
 use Rattle.transcript.specs.Transcript.{Entry, entry_lines, transcript_text}
-use Rattle.dc_top.specs.Opening.{IsHeader, IsTraffic, submits, delivers, MayStandAt, MayStandFrom, bearer_event, first_step, second_step}
+use Rattle.dc_top.specs.Opening.{IsHeader, submits, delivers, MayStandAt, MayStandFrom}
 use Rattle.dc_top.specs.Run.{WorldState, new_world, happen, entry_of, world_after, entries_from, IsGood}
-use Rattle.dc_top.specs.Script.{GoesOnWith, HasBadHeader, HasBadLine, IsScript, IsTranscriptOf, RanWhole, RanBefore, RanTo, IsSoFar, HasRead, IsTaken}
+use Rattle.dc_top.specs.Script.{GoesOnWith, IsTranscriptOf, RanWhole, RanBefore, IsSoFar, HasRead, IsTaken}
 use Rattle.dc_top.proofs.Faithful.{run_faithful}
 
 -- ---- text
@@ -24,8 +23,8 @@ lines_text-append ls ms = flat_map-append (λ l. ended (mark l ++ line_text l)) 
 transcript_text-next : (h : Header) (t : List Entry) (e : Entry) → transcript_text h (t ++ e ∷ []) ≡ transcript_text h t ++ lines_text (entry_lines e)
 transcript_text-next h t e =
     let lines : lines_text (flat_map entry_lines (t ++ e ∷ [])) ≡ lines_text (flat_map entry_lines t) ++ lines_text (entry_lines e) =
-        ap lines_text (flat_map-append entry_lines t (e ∷ []) ∙ ap (λ (xs : List Line). flat_map entry_lines t ++ xs) (append-nil (entry_lines e)))
-        ∙ lines_text-append (flat_map entry_lines t) (entry_lines e) in
+    ap lines_text (flat_map-append entry_lines t (e ∷ []) ∙ ap (λ (xs : List Line). flat_map entry_lines t ++ xs) (append-nil (entry_lines e)))
+    ∙ lines_text-append (flat_map entry_lines t) (entry_lines e) in
     ap (λ x. ended (header_text h) ++ x) lines ∙ sym (append_assoc (ended (header_text h)) (lines_text (flat_map entry_lines t)) (lines_text (entry_lines e)))
 
 script_text-next : (h : Header) (es : List Event) (e : Event) → script_text h (es ++ e ∷ []) ≡ script_text h es ++ ended (event_text e)
@@ -84,8 +83,11 @@ module _ (h : Header) where
       elim next.spelled [
         | inl more ↦ inl (ap (λ x. x ++ after) (script_text-next h es e ∙ ap (λ x. text ++ x) line')
             ∙ append_assoc text (line ++ 10 ∷ []) after ∙ ap (λ x. text ++ x) (append_assoc line (10 ∷ []) after ∙ sym more) ∙ whole)
-        | inr last ↦ inr (last.1, script_text-next h es e ∙ ap (λ x. text ++ x) (line' ∙ ap (λ x. x ++ 10 ∷ []) (sym last.0))
-            ∙ sym (append_assoc text rest (10 ∷ [])) ∙ ap (λ x. x ++ 10 ∷ []) whole)
+        | inr last ↦ inr (
+          last.1,
+          script_text-next h es e ∙ ap (λ x. text ++ x) (line' ∙ ap (λ x. x ++ 10 ∷ []) (sym last.0))
+              ∙ sym (append_assoc text rest (10 ∷ [])) ∙ ap (λ x. x ++ 10 ∷ []) whole,
+        )
       ]
 
   transcript_is : (es : List Event) → MayStandFrom 0 es → IsTranscriptOf h es (entries_from (new_world h) es)

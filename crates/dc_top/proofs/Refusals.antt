@@ -1,5 +1,5 @@
 -- A refused event keeps everything: it gives no line and changes nothing.
-use Rattle.std.proofs.Common.{ℕ, ◌≡◌, ◌+◌, ◌-◌, ◌^◌, ◌<◌, ◌≤◌, ◌++◌, true, List, [], ◌∷◌, length, take, refl, sym, ap, ◌∙◌, subst, arith}
+use Rattle.std.proofs.Common.{ℕ, ◌≡◌, ◌+◌, ◌≤◌, ◌++◌, true, List, [], ◌∷◌, length, take, refl, sym, ap, ◌∙◌, subst, arith}
 use Rattle.std.specs.Prelude.{nat_le}
 use Rattle.std.specs.List.{AllByRecursion}
 use Rattle.std.proofs.lemmas.List.{append-nil}
@@ -10,20 +10,18 @@ use Rattle.dc_base.specs.declared.numbers.SnLen.TheVariants.{S12}
 use Rattle.dc_base.specs.declared.nodes.Dir.TheVariants.{Ul, Dl}
 use Rattle.dc_base.specs.declared.events.Header.{Header}
 use Rattle.dc_base.specs.declared.events.Event.{Event}
-use Rattle.dc_base.specs.declared.answers.Answer.{Answer}
 use Rattle.dc_base.specs.declared.answers.Answer.TheVariants.{No}
 use Rattle.dc_base.specs.declared.answers.Refusal.{Refusal}
-use Rattle.dc_base.specs.declared.answers.Refusal.TheVariants.{Full, NoFlight, Aged}
+use Rattle.dc_base.specs.declared.answers.Refusal.TheVariants.{Full, NoFlight}
 use Rattle.dc_base.specs.declared.events.Event.TheVariants.{Step, Submit}
 use Rattle.transcript.specs.Transcript.{Entry, SomeEntry}
 use Rattle.transcript.specs.Content.{content_after, mt_air}
-use Rattle.transcript.specs.Bearers.{plan_of, submission_of, ups, numbered}
+use Rattle.transcript.specs.Bearers.{plan_of, submission_of, numbered}
 use Rattle.transcript.specs.Claims.{Protects, Carried, Prefix, TakesData, HasCause, IsLicensed, due_answer}
 use Rattle.transcript.proofs.Growing.{Each-next, SomeEntry-later}
 use Rattle.dc_top.specs.Run.{WorldState}
-use Rattle.dc_top.proofs.Lane.{window_of_12}
 use Rattle.dc_top.proofs.Books.{bearer, IsBook, ups_are, uplink_ups_are, book_next}
-use Rattle.dc_top.proofs.Claiming.{HasClaims, prefix_now, prefix_uplink_now, due_submission, due_delivery, submission_due}
+use Rattle.dc_top.proofs.Claiming.{prefix_now, prefix_uplink_now, due_submission, due_delivery, submission_due}
 use Rattle.dc_top.proofs.Traffic.{IsSound}
 
 module _ (h : Header) (t : List Entry) (w : WorldState) (s : IsSound h t w) (event : Event) (why : Refusal) where
@@ -35,7 +33,7 @@ module _ (h : Header) (t : List Entry) (w : WorldState) (s : IsSound h t w) (eve
   refused_sound no_plan no_submission no_uplink stands due =
       let up = numbered 0 (take w.rx.deliv s.accepted) in let c = s.claims in let b = s.book in
       let b' : IsBook (t ++ refused_entry ∷ []) s.accepted up w.air =
-          book_next t s.accepted up w.air b refused_entry s.accepted [] up [] w.air no_plan no_submission no_uplink refl refl refl stands (append-nil _) (append-nil _) in
+      book_next t s.accepted up w.air b refused_entry s.accepted [] up [] w.air no_plan no_submission no_uplink refl refl refl stands (append-nil _) (append-nil _) in
       let t' : List Entry = t ++ refused_entry ∷ [] in
       record {
         accepted = s.accepted;

@@ -1,5 +1,5 @@
 -- The texts of the lines that a script may have now, and what reading them finds.
-use Rattle.std.proofs.Common.{ℕ, ◌≡◌, ◌*◌, ◌+◌, ◌-◌, ◌^◌, ◌<◌, ◌≤◌, ◌++◌, List, [], ◌∷◌, Option, Some, None, MatchOption, length, refl, sym, ap, ◌∙◌, subst, arith}
+use Rattle.std.proofs.Common.{ℕ, ◌≡◌, ◌<◌, ◌≤◌, ◌++◌, List, [], ◌∷◌, Option, Some, None, length, refl, sym, ap, ◌∙◌, arith}
 use Rattle.std.specs.Prelude.{codes, ◌≢◌, ◌==◌, false, slice_index}
 use Rattle.std.proofs.lemmas.Bool.{true≢false, eq-eqb}
 use Rattle.std.specs.Fmt.{decimal, digits}
@@ -11,12 +11,11 @@ use Rattle.dc_base.specs.declared.nodes.Dir.TheVariants.{Dl}
 use Rattle.dc_base.specs.declared.events.Header.{Header}
 use Rattle.dc_base.specs.declared.events.Event.{Event}
 use Rattle.dc_base.specs.declared.events.Event.TheVariants.{Submit, Step}
-use Rattle.pdcp_pdu.specs.DataPdu.{IsPayload}
 use Rattle.transcript.specs.Text.{header_text, event_text}
 use Rattle.transcript.specs.Words.{alg_word}
 use Rattle.transcript.specs.Content.{mt_air}
-use Rattle.dc_top.specs.Opening.{IsHeader, IsTraffic, submits, delivers, MayStandAt, bearer_event, first_step, second_step}
-use Rattle.dc_top.specs.Script.{IsJudged, IsJudgedHeader, IsJudgedRoot}
+use Rattle.dc_top.specs.Opening.{IsHeader, IsTraffic, submits, delivers, bearer_event, first_step, second_step}
+use Rattle.dc_top.specs.Script.{IsJudgedHeader, IsJudgedRoot}
 
 pub text_of_submission : (sdu : List ℕ) → event_text (Submit 1 Dl sdu) ≡ codes "dl 1 " ++ encode_lower sdu
 unfolding digits

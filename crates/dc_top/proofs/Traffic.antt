@@ -1,46 +1,40 @@
 -- What each submission and each delivery keeps: the node rules meet the claims.
-use Rattle.std.proofs.Common.{ℕ, zero, suc, ◌≡◌, ◌+◌, ◌*◌, ◌/◌, ◌-◌, ◌^◌, ◌<◌, ◌≤◌, ◌⊎◌, ◌==◌, ◌++◌, Bool, true, false, List, [], ◌∷◌, Option, Some, None, length, map, take, drop, slice_get, refl, sym, ap, ◌∙◌, subst, arith, inl, inr}
-use Rattle.std.specs.Prelude.{nat_lt, nat_le, if◌then◌else◌}
-use Rattle.std.specs.Option.{option_map}
-use Rattle.std.specs.List.{AllByRecursion, remove, flat_map}
+use Rattle.std.proofs.Common.{ℕ, suc, ◌≡◌, ◌+◌, ◌-◌, ◌^◌, ◌<◌, ◌==◌, ◌++◌, true, false, List, [], ◌∷◌, Some, length, map, take, slice_get, refl, sym, ap, ◌∙◌, subst, arith, inl, inr}
+use Rattle.std.specs.Prelude.{nat_le}
+use Rattle.std.specs.List.{AllByRecursion, flat_map}
 use Rattle.std.proofs.lemmas.List.{append-nil, take-append-le}
-use Rattle.std.proofs.lemmas.Option.{slice_get_within, slice_get_past, slice_get_cases}
 use Rattle.std.proofs.lemmas.Bool.Decides.{nat_tests}
-use Rattle.std.proofs.lemmas.Bool.{cond-true, cond-false, lt-ltb, le-ltb, ltb-true, ltb-false, eqb-true, cases_Bool, cases_lt}
+use Rattle.std.proofs.lemmas.Bool.{cond-false, eqb-true, cases_Bool}
 use Rattle.dc_base.specs.Count.{window, sn}
 use Rattle.dc_base.specs.declared.numbers.SnLen.TheVariants.{S12}
-use Rattle.dc_base.specs.declared.nodes.Dir.{Dir}
 use Rattle.dc_base.specs.declared.nodes.Dir.TheVariants.{Ul, Dl}
 use Rattle.dc_base.specs.declared.nodes.LinkId.{LinkId}
 use Rattle.dc_base.specs.declared.flights.Flight.{Flight}
-use Rattle.dc_base.specs.declared.flights.Flight.TheVariants as flight
 use Rattle.dc_base.specs.declared.events.Header.{Header}
 use Rattle.dc_base.specs.declared.events.Line.{Line}
 use Rattle.dc_base.specs.declared.events.Line.TheVariants as line
-use Rattle.dc_base.specs.declared.answers.Answer.{Answer}
 use Rattle.dc_base.specs.declared.answers.Answer.TheVariants as answer
-use Rattle.dc_base.specs.declared.answers.Refusal.TheVariants.{Full, NoFlight}
-use Rattle.dc_base.specs.declared.events.Event.TheVariants.{Step, Submit}
+use Rattle.dc_base.specs.declared.events.Event.TheVariants.{Submit}
 use Rattle.pdcp_pdu.specs.DataPdu.{IsPayload, data_pdu}
 use Rattle.pdcp_rx.specs.declared.entity.Put.{Put}
 use Rattle.pdcp_rx.specs.declared.entity.Put.TheVariants.{Stored, Old, Again}
 use Rattle.pdcp_rx.specs.declared.entity.RxParts.{RxParts}
-use Rattle.pdcp_rx.specs.Entries.{Entry as Numbered, is_stored, with_sdu}
+use Rattle.pdcp_rx.specs.Entries.{with_sdu}
 use Rattle.pdcp_rx.specs.Run.{run_from}
-use Rattle.pdcp_rx.specs.Receiver.{put, Received}
+use Rattle.pdcp_rx.specs.Receiver.{put, handed_of, Received}
 use Rattle.pdcp_rx.proofs.Putting.{put_cases}
 use Rattle.transcript.specs.Text.{is_data}
-use Rattle.transcript.specs.Transcript.{Entry, sends, SomeEntry, Each}
-use Rattle.transcript.specs.Content.{content, content_after, given, put_on, on_link, mt_air, tm_air}
-use Rattle.transcript.specs.Bearers.{Established, plan_of, submission_of, submitted, ups, up_of, freed_of, numbered, master_key, key_in, plans}
-use Rattle.transcript.specs.Claims.{Protects, IsDataFlight, IsProtected, Carried, Prefix, TakesData, HasCause, IsLicensed, IsReason, due_answer}
-use Rattle.transcript.proofs.OnEach.{each_at, each_weaker}
-use Rattle.transcript.proofs.Growing.{Each-next, SomeEntry-later, SomeEntry-last}
-use Rattle.dc_top.specs.Nodes.{ciphered, data_flight, received, put_lines, up_line, ack_line}
-use Rattle.dc_top.specs.Run.{WorldState, Outcome, submit, deliver, deliver_at}
-use Rattle.dc_top.proofs.Lane.{IsLane, IsSent, IsNumbered, run_of, window_of_12, received_is, submit_keeps, deliver_keeps, put_handed, slice_get_last, Received-only}
-use Rattle.dc_top.proofs.Books.{bearer, IsBook, latest_is, is_generation_is, ups_are, uplink_ups_are, book_next}
-use Rattle.dc_top.proofs.Claiming.{HasClaims, prefix_now, prefix_uplink_now, due_submission, due_delivery, submission_due}
+use Rattle.transcript.specs.Transcript.{Entry, sends, SomeEntry}
+use Rattle.transcript.specs.Content.{put_on, on_link, mt_air}
+use Rattle.transcript.specs.Bearers.{submitted, up_of, freed_of, numbered, master_key, key_in}
+use Rattle.transcript.specs.Claims.{Protects, Carried, Prefix, TakesData, HasCause, IsLicensed}
+use Rattle.transcript.proofs.OnEach.{each_weaker}
+use Rattle.transcript.proofs.Growing.{Each-next, SomeEntry-later}
+use Rattle.dc_top.specs.Nodes.{ciphered, data_flight, put_lines, up_line}
+use Rattle.dc_top.specs.Run.{WorldState}
+use Rattle.dc_top.proofs.Lane.{IsLane, window_of_12, submit_keeps, slice_get_last}
+use Rattle.dc_top.proofs.Books.{bearer, IsBook, latest_is, ups_are, uplink_ups_are, book_next}
+use Rattle.dc_top.proofs.Claiming.{HasClaims, prefix_now, prefix_uplink_now, due_submission, submission_due}
 
 -- the transcript so far, with the world that it led to
 pub record IsSound (h : Header) (t : List Entry) (w : WorldState) : Type 0 where
@@ -52,7 +46,7 @@ pub record IsSound (h : Header) (t : List Entry) (w : WorldState) : Type 0 where
 
 -- ---- lines of the terminal
 
-pub put_lines_are : (p : Put) → put_lines p ≡ map up_line (run_of p)
+pub put_lines_are : (p : Put) → put_lines p ≡ map up_line (handed_of p)
 put_lines_are (Stored run) = refl
 put_lines_are (Old deliv) = refl
 put_lines_are Again = refl
@@ -83,15 +77,17 @@ run_below c [] = tt
 run_below c (e ∷ es) =
     elim (cases_Bool (e.0 == c)) [
       | inl same ↦ rw same (
-          let is = eqb-true e.0 c same in
-          (omega arith, each_weaker (λ u. u.0 < c + 1 + length (run_from (c + 1) es)) (λ u. u.0 < c + suc (length (run_from (c + 1) es)))
-            (λ u lt. omega arith) (run_from (c + 1) es) (run_below (c + 1) es)))
+          let is = eqb-true e.0 c same in (
+            omega arith,
+            each_weaker (λ u. u.0 < c + 1 + length (run_from (c + 1) es)) (λ u. u.0 < c + suc (length (run_from (c + 1) es)))
+                (λ u lt. omega arith) (run_from (c + 1) es) (run_below (c + 1) es),
+          ))
       | inr other ↦ rw other tt
     ]
 
-pub put_below : (r : RxParts) (c : ℕ) (p : List ℕ) → AllByRecursion (λ u. u.0 < (put r c p).0.deliv) (run_of (put r c p).1)
+pub put_below : (r : RxParts) (c : ℕ) (p : List ℕ) → AllByRecursion (λ u. u.0 < (put r c p).0.deliv) (handed_of (put r c p).1)
 put_below r c p =
-    put_cases (λ q. AllByRecursion (λ u. u.0 < q.0.deliv) (run_of q.1)) r c p (λ old. tt) (λ le again. tt) (λ le new. run_below r.deliv (with_sdu c p r.stored))
+    put_cases (λ q. AllByRecursion (λ u. u.0 < q.0.deliv) (handed_of q.1)) r c p (λ old. tt) (λ le again. tt) (λ le new. run_below r.deliv (with_sdu c p r.stored))
 
 -- ---- tests that fail
 
@@ -135,21 +131,23 @@ module _ (h : Header) (t : List Entry) (w : WorldState) (s : IsSound h t w) (p :
       let counted : length s.accepted ≡ w.next = s.lane.counted in
       let place : w.next - 0 ≡ w.next = omega arith in
       let here : slice_get (submitted bearer Dl t') (w.next - 0) ≡ Some p =
-          ap (λ k. slice_get (submitted bearer Dl t') k) place ∙ ap (λ (xs : List (List ℕ)). slice_get xs w.next) b'.down ∙ subst (λ k. slice_get (s.accepted ++ p ∷ []) k ≡ Some p) counted (slice_get_last s.accepted p) in
+      ap (λ k. slice_get (submitted bearer Dl t') k) place ∙ ap (λ (xs : List (List ℕ)). slice_get xs w.next) b'.down ∙ subst (λ k. slice_get (s.accepted ++ p ∷ []) k ≡ Some p) counted (slice_get_last s.accepted p) in
       let due : submission_due w.next ≡ answer.Ok =
-          (let W = window_of_12 in cond-false _ _ _ (not_le (0 + window S12) (0 + w.next) (omega arith)) ∙ cond-false _ _ _ (not_eq (0 + w.next) (2 ^ 32 - 1) (omega arith))) in
+      (let W = window_of_12 in cond-false _ _ _ (not_le (0 + window S12) (0 + w.next) (omega arith)) ∙ cond-false _ _ _ (not_eq (0 + w.next) (2 ^ 32 - 1) (omega arith))) in
       record {
-        protects = Each-next (Protects h bearer Dl) t accepted_entry c.protects
-            ((λ is. record {
-              count = w.next;
-              tagged = refl;
-              counted = omega arith;
-              sdu = p;
-              submission = here;
-              key = master_key 0;
-              keyed = ap (λ ps. key_in 1 1 ps) b'.planned;
-              spelled = ap (λ x. data_pdu S12 (sn S12 w.next) (ciphered x w.next p)) s.lane.header;
-            }), tt);
+        protects = Each-next (Protects h bearer Dl) t accepted_entry c.protects (
+          (λ is. record {
+            count = w.next;
+            tagged = refl;
+            counted = omega arith;
+            sdu = p;
+            submission = here;
+            key = master_key 0;
+            keyed = ap (λ ps. key_in 1 1 ps) b'.planned;
+            spelled = ap (λ x. data_pdu S12 (sn S12 w.next) (ciphered x w.next p)) s.lane.header;
+          }),
+          tt,
+        );
         protects_uplink = Each-next (Protects h bearer Ul) t accepted_entry c.protects_uplink ((λ is. absurd (not_uplink is.3)), tt);
         carried = Each-next (Carried bearer Dl) t accepted_entry c.carried
             (subst (AllByRecursion (λ u. SomeEntry (TakesData bearer Dl u.0) t')) (sym (ups_are t s.accepted (numbered 0 (take w.rx.deliv s.accepted)) w.air b accepted_entry)) tt);
@@ -160,14 +158,20 @@ module _ (h : Header) (t : List Entry) (w : WorldState) (s : IsSound h t w) (p :
         causes = Each-next HasCause t accepted_entry c.causes
             (sym (due_submission t s.accepted (numbered 0 (take w.rx.deliv s.accepted)) w.air p b ∙ ap submission_due counted ∙ due));
         licence = Each-next (IsLicensed h) t accepted_entry c.licence (record {
-          reasons = ((is_data_pdu (sn S12 w.next) (ciphered w.header w.next p), record {
-            sdu = p;
-            submits = refl;
-            accepted = refl;
-            bearer = bearer;
-            of_bearer = latest_is t b.planned;
-            tagged = ap Some (sym (ap (λ (xs : List (List ℕ)). 0 + length xs) b.down ∙ (let n = counted in omega arith)));
-          }), tt);
+          reasons = (
+            (
+              is_data_pdu (sn S12 w.next) (ciphered w.header w.next p),
+              record {
+                sdu = p;
+                submits = refl;
+                accepted = refl;
+                bearer = bearer;
+                of_bearer = latest_is t b.planned;
+                tagged = ap Some (sym (ap (λ (xs : List (List ℕ)). 0 + length xs) b.down ∙ (let n = counted in omega arith)));
+              },
+            ),
+            tt,
+          );
           one = omega arith;
         });
       }

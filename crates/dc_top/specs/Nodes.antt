@@ -1,10 +1,9 @@
 -- The rules of the two nodes: what each does with an input, in what it holds and in the lines that it gives.
-use Rattle.std.specs.Prelude.{◌≡◌, ℕ, ◌+◌, ◌-◌, ◌<◌, ◌^◌, nat_lt, ◌==◌, if◌then◌else◌, false, List, [], ◌∷◌, ◌++◌, length, map, Option, Some, None, Result, Ok, Err}
+use Rattle.std.specs.Prelude.{ℕ, ◌-◌, ◌^◌, nat_lt, ◌==◌, if◌then◌else◌, List, [], ◌∷◌, ◌++◌, length, map, Option, Some, None, Result, Ok}
 use Rattle.dc_base.specs.Count.{sn, count_for, window}
 use Rattle.dc_base.specs.declared.numbers.SnLen.TheVariants.{S12}
-use Rattle.dc_base.specs.declared.nodes.Dir.TheVariants.{Ul, Dl}
+use Rattle.dc_base.specs.declared.nodes.Dir.TheVariants.{Dl}
 use Rattle.dc_base.specs.declared.nodes.Node.TheVariants.{T, M}
-use Rattle.dc_base.specs.declared.nodes.LinkId.{LinkId}
 use Rattle.dc_base.specs.declared.flights.Flight.{Flight}
 use Rattle.dc_base.specs.declared.flights.Flight.TheVariants as flight
 use Rattle.dc_base.specs.declared.records.Item.TheVariants.{Set}
@@ -12,7 +11,7 @@ use Rattle.dc_base.specs.declared.records.Plan.{Plan}
 use Rattle.dc_base.specs.declared.records.Rec.TheVariants.{Reconf, Rcomp}
 use Rattle.dc_base.specs.declared.answers.Answer.{Answer}
 use Rattle.dc_base.specs.declared.answers.Answer.TheVariants as answer
-use Rattle.dc_base.specs.declared.answers.Refusal.TheVariants.{Full, NoFlight}
+use Rattle.dc_base.specs.declared.answers.Refusal.TheVariants.{Full}
 use Rattle.dc_base.specs.declared.events.Header.{Header}
 use Rattle.dc_base.specs.declared.events.Line.{Line}
 use Rattle.dc_base.specs.declared.events.Line.TheVariants as line
@@ -21,13 +20,13 @@ use Rattle.nea2.specs.Combined.{combined}
 use Rattle.nea2.specs.Keystream.{keystream}
 use Rattle.key_chain.specs.KeyNames.{upenc}
 use Rattle.pdcp_pdu.specs.DataPdu.{data_pdu}
-use Rattle.pdcp_pdu.specs.Pdu.{Content, sdu, report, decoded}
+use Rattle.pdcp_pdu.specs.Pdu.{Content, sdu, decoded}
 use Rattle.pdcp_pdu.specs.declared.pdu.PduErr.{PduErr}
 use Rattle.pdcp_rx.specs.declared.entity.Put.{Put}
-use Rattle.pdcp_rx.specs.declared.entity.Put.TheVariants.{Stored, Old, Again}
+use Rattle.pdcp_rx.specs.declared.entity.Put.TheVariants.{Stored}
 use Rattle.pdcp_rx.specs.declared.entity.RxParts.{RxParts}
 use Rattle.pdcp_rx.specs.Receiver.{put}
-use Rattle.transcript.specs.Content.{mt_ctl, tm_ctl, mt_air, tm_air}
+use Rattle.transcript.specs.Content.{mt_ctl, tm_ctl, tm_air}
 use Rattle.transcript.specs.Bearers.{master_key}
 use Rattle.dc_top.specs.Opening.{at_master}
 

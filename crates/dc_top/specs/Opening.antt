@@ -1,12 +1,9 @@
 -- The scripts that `run` takes now: one bearer, set up by three events, and then downlink submissions and deliveries.
-use Rattle.std.specs.Prelude.{◌≡◌, ℕ, zero, suc, ◌+◌, ◌<◌, ◌≤◌, ◌^◌, false, List, [], ◌∷◌, length, None, ⊤}
+use Rattle.std.specs.Prelude.{◌≡◌, ℕ, zero, suc, ◌<◌, ◌^◌, false, List, [], ◌∷◌, length, ⊤}
 use Rattle.dc_base.specs.declared.numbers.SnLen.TheVariants.{S12}
-use Rattle.dc_base.specs.declared.nodes.Dir.{Dir}
-use Rattle.dc_base.specs.declared.nodes.Dir.TheVariants.{Ul, Dl}
-use Rattle.dc_base.specs.declared.nodes.Node.TheVariants.{T, M}
+use Rattle.dc_base.specs.declared.nodes.Dir.TheVariants.{Dl}
 use Rattle.dc_base.specs.declared.nodes.LegSet.TheVariants.{Mcg}
 use Rattle.dc_base.specs.declared.nodes.Shape.{Shape}
-use Rattle.dc_base.specs.declared.nodes.LinkId.{LinkId}
 use Rattle.dc_base.specs.declared.events.Header.{Header}
 use Rattle.dc_base.specs.declared.events.Event.{Event}
 use Rattle.dc_base.specs.declared.events.Event.TheVariants.{Bearer, Submit, Step}

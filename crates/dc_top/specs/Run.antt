@@ -1,12 +1,11 @@
 -- A run of the two nodes and the links between them, one event after another.
-use Rattle.std.specs.Prelude.{◌≡◌, ℕ, ◌+◌, nat_lt, if◌then◌else◌, List, [], ◌∷◌, ◌++◌, slice_get, remove, Option, Some, None, ⊤}
+use Rattle.std.specs.Prelude.{ℕ, ◌+◌, nat_lt, if◌then◌else◌, List, [], ◌∷◌, ◌++◌, slice_get, remove, Option, Some, None, ⊤}
 use Rattle.dc_base.specs.Count.{window}
 use Rattle.dc_base.specs.declared.numbers.SnLen.TheVariants.{S12}
 use Rattle.dc_base.specs.declared.nodes.Class.{Class}
-use Rattle.dc_base.specs.declared.nodes.Class.TheVariants.{Ctl, Feed, Air, Tun}
+use Rattle.dc_base.specs.declared.nodes.Class.TheVariants.{Ctl}
 use Rattle.dc_base.specs.declared.nodes.Node.{Node}
-use Rattle.dc_base.specs.declared.nodes.Node.TheVariants.{T, M, A, B}
-use Rattle.dc_base.specs.declared.nodes.LinkId.{LinkId}
+use Rattle.dc_base.specs.declared.nodes.Node.TheVariants.{M}
 use Rattle.dc_base.specs.declared.flights.Flight.{Flight}
 use Rattle.dc_base.specs.declared.answers.Answer.{Answer}
 use Rattle.dc_base.specs.declared.answers.Answer.TheVariants as answer
@@ -20,13 +19,13 @@ use Rattle.pdcp_pdu.specs.DataPdu.{IsPayload}
 use Rattle.pdcp_rx.specs.declared.entity.RxParts.{RxParts}
 use Rattle.transcript.specs.Transcript.{Entry}
 use Rattle.transcript.specs.Content.{mt_air}
-use Rattle.dc_top.specs.Nodes.{set_up_lines, configured_lines, completed_lines, data_flight, submit_answer, received}
+use Rattle.dc_top.specs.Nodes.{set_up_lines, configured_lines, completed_lines, data_flight, received}
 
 -- what the nodes and the air link to the terminal hold
 pub record WorldState : Type 0 where
   pub header : Header
-  pub next : ℕ           -- TX_NEXT of the master's sending entity
-  pub rx : RxParts       -- the terminal's receiving entity
+  pub next : ℕ  -- TX_NEXT of the master's sending entity
+  pub rx : RxParts  -- the terminal's receiving entity
   pub air : List Flight  -- what stands on mt.air
 
 abbrev pub new_world : Header → WorldState
@@ -45,8 +44,8 @@ Outcome = Answer × List Line
 abbrev pub submit : WorldState → List ℕ → WorldState × Outcome
 submit w payload =
     if nat_lt w.next (window S12) then
-      (let f = data_flight w.header w.next payload in
-      (record w { next = w.next + 1; air = w.air ++ f ∷ [] }, (answer.Ok, line.Send mt_air f ∷ [])))
+    (let f = data_flight w.header w.next payload in
+    (record w { next = w.next + 1; air = w.air ++ f ∷ [] }, (answer.Ok, line.Send mt_air f ∷ [])))
     else (w, (answer.No Full, []))
 
 -- the flight at a place of mt.air is given to the terminal, if there is one

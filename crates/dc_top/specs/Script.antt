@@ -1,5 +1,5 @@
 -- The scripts that `run` takes, as octets, and what a call of it writes.
-use Rattle.std.specs.Prelude.{◌≡◌, ◌≢◌, ℕ, ◌+◌, ◌*◌, ◌^◌, ◌<◌, ◌≤◌, ◌⊎◌, List, [], ◌∷◌, ◌++◌, length, map, slice_index, MatchOption, Option}
+use Rattle.std.specs.Prelude.{◌≡◌, ◌≢◌, ℕ, ◌+◌, ◌*◌, ◌^◌, ◌<◌, ◌⊎◌, List, [], ◌∷◌, ◌++◌, length, map, slice_index, MatchOption, Option}
 use Rattle.hex.specs.Hex.{encode_lower}
 use Rattle.dc_base.specs.declared.nodes.Alg.{Alg}
 use Rattle.dc_base.specs.declared.events.Header.{Header}

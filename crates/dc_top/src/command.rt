@@ -61,7 +61,13 @@ fn run<S: Source, K: Sink>(alloc: Global, src: &mut S, out: &mut K) -> Status
 /// The top call: runs the program on the words of its command line, without its name, and answers the status that it
 /// ends with. The one form that is built is `run`: it reads a script from `src` and writes the transcript to `out`; any
 /// other words are `Usage`, and nothing is read or written. A fault text goes to `err`, whose faults change nothing.
-pub fn run_command<S: Source, K: Sink, E: Sink>(alloc: Global, words: &[String], src: &mut S, out: &mut K, err: &mut E) -> Status
+pub fn run_command<S: Source, K: Sink, E: Sink>(
+    alloc: Global,
+    words: &[String],
+    src: &mut S,
+    out: &mut K,
+    err: &mut E,
+) -> Status
     // Which words are none of the forms.
     ensures usage { (result ≡ Status.Usage) ↔ ((map string_bytes words.now ≡ codes "run" ∷ []) → ⊥) }
     ensures unused { result ≡ Status.Usage → (src.new ≡ src.old) × (out.new ≡ out.old) }
@@ -75,7 +81,11 @@ pub fn run_command<S: Source, K: Sink, E: Sink>(alloc: Global, words: &[String],
     ensures write_fault { result ≡ Status.WriteFault → Rose (K.fault_count out.old) (K.fault_count out.new) }
     ensures too_long { result ≡ Status.TooLong → (input : List ℕ) → S.left src.old ≡ Some input → most_octets < length input }
 {
-    let status = if is_run(words) { run(alloc, src, out) } else { Status::Usage };
+    let status = if is_run(words) {
+        run(alloc, src, out)
+    } else {
+        Status::Usage
+    };
     write_fault(status, err);
     status
 }

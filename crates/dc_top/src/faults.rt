@@ -4,7 +4,8 @@ use dc_base::Status;
 use dc_outside::{Failed, Sink};
 
 /// The usage text.
-const USAGE: &[u8] = b"dc: usage: dc run / keys ROOT COUNTER / nea2 KEY COUNT DRB DIR HEX / show KIND HEX / make SEED TURNS / soak SEED TURNS / live TURNS\n";
+const USAGE: &[u8] =
+    b"dc: usage: dc run / keys ROOT COUNTER / nea2 KEY COUNT DRB DIR HEX / show KIND HEX / make SEED TURNS / soak SEED TURNS / live TURNS\n";
 
 /// Writes a number in decimal digits.
 fn write_number<E: Sink>(number: u32, err: &mut E) -> Result<(), Failed> {

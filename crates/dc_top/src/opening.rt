@@ -5,7 +5,8 @@ ghost use Rattle.dc_top.specs.Nodes.{opening_plan, set_up_lines, configured_line
 
 use crate::bearer::bearer_1;
 use dc_base::{
-    Class, Flight, Header, Item, KeyName, LegSet, Line, LinkId, Memory, Node, Note, Plan, Rec, Seq, Shape, Side, SnLen,
+    Class, Flight, Header, Item, KeyName, LegSet, Line, LinkId, Memory, Node, Note, Plan, Rec, Seq,
+    Shape, Side, SnLen,
 };
 use std::alloc::Global;
 

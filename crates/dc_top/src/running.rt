@@ -45,7 +45,13 @@ fn append_lines(alloc: Global, out: &mut Octets, lines: &[Line]) -> Result<(), M
 }
 
 /// Adds the lines of an entry.
-fn append_entry(alloc: Global, out: &mut Octets, event: Event, answer: Answer, lines: &Seq<Line>) -> Result<(), Memory>
+fn append_entry(
+    alloc: Global,
+    out: &mut Octets,
+    event: Event,
+    answer: Answer,
+    lines: &Seq<Line>,
+) -> Result<(), Memory>
     ensures { OnOk result (out.new ≡ out.old ++ lines_text (Line.Event event ∷ Line.Answer answer ∷ lines.now)) }
 {
     append_line(alloc, out, &Line::Event(event))?;
@@ -55,7 +61,13 @@ fn append_entry(alloc: Global, out: &mut Octets, event: Event, answer: Answer, l
 
 /// Runs the event that a line is at this place of a script, from 0: whether it is one that may stand there. Where it is
 /// none, nothing is added.
-fn take_line(alloc: Global, world: &mut World, out: &mut Octets, place: u32, line: &[u8]) -> Result<bool, Memory>
+fn take_line(
+    alloc: Global,
+    world: &mut World,
+    out: &mut Octets,
+    place: u32,
+    line: &[u8],
+) -> Result<bool, Memory>
     ensures { IfOk result (λ taken. MatchBool taken (IsTaken world.old out.old place line.now world.new out.new)
         (IsBadLine out.old place line.now out.new)) }
 {
@@ -68,7 +80,13 @@ fn take_line(alloc: Global, world: &mut World, out: &mut Octets, place: u32, lin
 }
 
 /// Runs the lines after the header.
-fn run_lines(alloc: Global, input: &[u8], header: Header, first: Octets, rest: &[u8]) -> Result<Ran, Memory>
+fn run_lines(
+    alloc: Global,
+    input: &[u8],
+    header: Header,
+    first: Octets,
+    rest: &[u8],
+) -> Result<Ran, Memory>
     requires long { length input.now ≤ most_octets }
     requires header { IsHeader header }
     requires first { IsSoFar header [] (new_world header) first 0 }

@@ -9,14 +9,22 @@ ghost use Rattle.transcript.specs.Bearers.{master_key};
 ghost use Rattle.dc_top.specs.Nodes.{ciphered, received, put_lines, up_line, ack_line, sdu_taken, pdu_taken};
 
 use crate::bearer::bearer_1;
-use dc_base::{Dir, Flight, Header, Line, LinkId, Class, Memory, Node, Note, Octets, Seq, SnLen, infer};
+use dc_base::{
+    Class, Dir, Flight, Header, Line, LinkId, Memory, Node, Note, Octets, Seq, SnLen, infer,
+};
 use nea2::{Aes128, nea};
 use pdcp_pdu::{Pdu, decode};
 use pdcp_rx::{Put, Rx};
 use std::alloc::Global;
 
 /// The payload combined with the keystream of its COUNT under the bearer's key: ciphered, or deciphered again.
-pub fn ciphered(alloc: Global, header: &Header, key: &Aes128, count: u32, text: &[u8]) -> Result<Octets, Memory>
+pub fn ciphered(
+    alloc: Global,
+    header: &Header,
+    key: &Aes128,
+    count: u32,
+    text: &[u8],
+) -> Result<Octets, Memory>
     requires long { length text.now ≤ 9000 }
     requires keyed { key.now ≡ upenc (header.now.root ∷ []) (master_key 0) header.now.alg }
     ensures value { IfOk result (λ made. made ≡ ciphered header.now count text.now) }
@@ -25,7 +33,14 @@ pub fn ciphered(alloc: Global, header: &Header, key: &Aes128, count: u32, text: 
     let Ok(mut octets) = Vec::from_slice(alloc, text) else {
         return Err(Memory);
     };
-    nea(header.alg, key, count, bearer_1(), Dir::Dl, octets.as_mut_slice());
+    nea(
+        header.alg,
+        key,
+        count,
+        bearer_1(),
+        Dir::Dl,
+        octets.as_mut_slice(),
+    );
     Ok(Octets::from_vec(octets))
 }
 
@@ -66,11 +81,25 @@ fn ack_line(num: u32) -> Line
         to: Node::M,
         class: Class::Air,
     };
-    Line::Send(link, Flight::Ack { id: bearer_1(), g: 1, num })
+    Line::Send(
+        link,
+        Flight::Ack {
+            id: bearer_1(),
+            g: 1,
+            num,
+        },
+    )
 }
 
 /// What becomes of a ciphered SDU with its COUNT.
-fn take_sdu(alloc: Global, header: &Header, key: &Aes128, rx: &mut Rx, body: &[u8], count: u32) -> Result<Seq<Line>, Memory>
+fn take_sdu(
+    alloc: Global,
+    header: &Header,
+    key: &Aes128,
+    rx: &mut Rx,
+    body: &[u8],
+    count: u32,
+) -> Result<Seq<Line>, Memory>
     requires long { length body.now ≤ 9000 }
     requires keyed { key.now ≡ upenc (header.now.root ∷ []) (master_key 0) header.now.alg }
     requires in_window { count < rx.old.deliv + window rx.old.n }
@@ -85,7 +114,13 @@ fn take_sdu(alloc: Global, header: &Header, key: &Aes128, rx: &mut Rx, body: &[u
 }
 
 /// The terminal takes a data PDU from the air link.
-fn take_pdu(alloc: Global, header: &Header, key: &Aes128, rx: &mut Rx, pdu: &[u8]) -> Result<Option<Seq<Line>>, Memory>
+fn take_pdu(
+    alloc: Global,
+    header: &Header,
+    key: &Aes128,
+    rx: &mut Rx,
+    pdu: &[u8],
+) -> Result<Option<Seq<Line>>, Memory>
     requires keyed { key.now ≡ upenc (header.now.root ∷ []) (master_key 0) header.now.alg }
     requires length_12 { rx.old.n ≡ SnLen.S12 }
     ensures value { IfOk result (λ lines. (rx.new, lines) ≡ pdu_taken header.now rx.old (decoded SnLen.S12 pdu.now)) }
@@ -102,7 +137,13 @@ fn take_pdu(alloc: Global, header: &Header, key: &Aes128, rx: &mut Rx, pdu: &[u8
 }
 
 /// The terminal takes a flight from the air link.
-pub fn receive(alloc: Global, header: &Header, key: &Aes128, rx: &mut Rx, flight: &Flight) -> Result<Seq<Line>, Memory>
+pub fn receive(
+    alloc: Global,
+    header: &Header,
+    key: &Aes128,
+    rx: &mut Rx,
+    flight: &Flight,
+) -> Result<Seq<Line>, Memory>
     requires keyed { key.now ≡ upenc (header.now.root ∷ []) (master_key 0) header.now.alg }
     requires length_12 { rx.old.n ≡ SnLen.S12 }
     ensures value { IfOk result (λ lines. (rx.new, lines) ≡ received header.now rx.old flight.now) }

@@ -16,7 +16,8 @@ step mt.air 1
 step mt.air 0
 ";
 
-const TRANSCRIPT: &[u8] = b"dcs1 nea0 0 0000000000000000000000000000000000000000000000000000000000000000
+const TRANSCRIPT: &[u8] =
+    b"dcs1 nea0 0 0000000000000000000000000000000000000000000000000000000000000000
 > bearer 1 12 0 mm 0 0
 = ok
 - own m 1 1
@@ -46,7 +47,13 @@ const TRANSCRIPT: &[u8] = b"dcs1 nea0 0 0000000000000000000000000000000000000000
 
 /// What a call with these words and this input left: its status, and what it put out on `out` and `err`. The read and
 /// the write of these numbers fail.
-fn call(alloc: Global, words: &[&str], input: &[u8], bad_read: u64, bad_write: u64) -> Result<(Status, Vec<u8>, Vec<u8>), Fail> {
+fn call(
+    alloc: Global,
+    words: &[&str],
+    input: &[u8],
+    bad_read: u64,
+    bad_write: u64,
+) -> Result<(Status, Vec<u8>, Vec<u8>), Fail> {
     let mut line = Vec::new(alloc);
     for word in words {
         line.push(String::from_str(alloc, word)?)?;
@@ -55,7 +62,11 @@ fn call(alloc: Global, words: &[&str], input: &[u8], bad_read: u64, bad_write: u
     let mut out = MemSink::new(vec![in alloc; 0; 8000]?, vec![in alloc; bad_write]?);
     let mut err = MemSink::new(vec![in alloc; 0; 400]?, Vec::new(alloc));
     let status = run_command(alloc, line.as_slice(), &mut src, &mut out, &mut err);
-    Ok((status, out.octets().to_vec(alloc)?, err.octets().to_vec(alloc)?))
+    Ok((
+        status,
+        out.octets().to_vec(alloc)?,
+        err.octets().to_vec(alloc)?,
+    ))
 }
 
 /// Whether the octets end with this text.
@@ -66,15 +77,64 @@ fn ends(octets: &[u8], text: &[u8]) -> bool {
 #[test]
 fn scripts_and_what_they_leave(rt: HostRuntime) -> Result<(), Fail> {
     let alloc = rt.alloc();
-    let bad_line_2: &[u8] = b"dcs1 nea0 0 0000000000000000000000000000000000000000000000000000000000000000\nbearer 1 13 0 mm 0 0\n";
+    let bad_line_2: &[u8] =
+        b"dcs1 nea0 0 0000000000000000000000000000000000000000000000000000000000000000\nbearer 1 13 0 mm 0 0\n";
     let rows: [(&[&str], &[u8], u64, u64, Status, &[u8], &[u8]); 7] = [
         (&["run"], SCRIPT, 0, 0, Status::Ok, TRANSCRIPT, b""),
-        (&["run"], b"", 0, 0, Status::BadLine { line: 1, column: 1 }, b"", b"dc: line 1 column 1: not in the grammar\n"),
-        (&["run"], bad_line_2, 0, 0, Status::BadLine { line: 2, column: 1 }, &TRANSCRIPT[..77], b"dc: line 2 column 1: not in the grammar\n"),
-        (&["run"], SCRIPT, 2, 0, Status::ReadFault, b"", b"dc: read fault\n"),
-        (&["run"], SCRIPT, 0, 1, Status::WriteFault, b"", b"dc: write fault\n"),
-        (&["run", "x"], SCRIPT, 0, 0, Status::Usage, b"", b"dc: usage: dc run / keys ROOT COUNTER / nea2 KEY COUNT DRB DIR HEX / show KIND HEX / make SEED TURNS / soak SEED TURNS / live TURNS\n"),
-        (&[], SCRIPT, 0, 0, Status::Usage, b"", b"dc: usage: dc run / keys ROOT COUNTER / nea2 KEY COUNT DRB DIR HEX / show KIND HEX / make SEED TURNS / soak SEED TURNS / live TURNS\n"),
+        (
+            &["run"],
+            b"",
+            0,
+            0,
+            Status::BadLine { line: 1, column: 1 },
+            b"",
+            b"dc: line 1 column 1: not in the grammar\n",
+        ),
+        (
+            &["run"],
+            bad_line_2,
+            0,
+            0,
+            Status::BadLine { line: 2, column: 1 },
+            &TRANSCRIPT[..77],
+            b"dc: line 2 column 1: not in the grammar\n",
+        ),
+        (
+            &["run"],
+            SCRIPT,
+            2,
+            0,
+            Status::ReadFault,
+            b"",
+            b"dc: read fault\n",
+        ),
+        (
+            &["run"],
+            SCRIPT,
+            0,
+            1,
+            Status::WriteFault,
+            b"",
+            b"dc: write fault\n",
+        ),
+        (
+            &["run", "x"],
+            SCRIPT,
+            0,
+            0,
+            Status::Usage,
+            b"",
+            b"dc: usage: dc run / keys ROOT COUNTER / nea2 KEY COUNT DRB DIR HEX / show KIND HEX / make SEED TURNS / soak SEED TURNS / live TURNS\n",
+        ),
+        (
+            &[],
+            SCRIPT,
+            0,
+            0,
+            Status::Usage,
+            b"",
+            b"dc: usage: dc run / keys ROOT COUNTER / nea2 KEY COUNT DRB DIR HEX / show KIND HEX / make SEED TURNS / soak SEED TURNS / live TURNS\n",
+        ),
     ];
     for (words, input, bad_read, bad_write, status, text, fault) in rows {
         let left = call(alloc, words, input, bad_read, bad_write)?;

@@ -12,7 +12,10 @@ ghost use Rattle.dc_top.specs.Run.{new_world, submit, deliver, step_on, happen, 
 use crate::bearer::bearer_1;
 use crate::opening::{completed_lines, configured_lines, set_up_lines};
 use crate::terminal::{ciphered, receive};
-use dc_base::{Alg, Answer, Class, Event, Flight, Header, Line, LinkId, Memory, Node, Octets, Refusal, Seq, SnLen, Tag, sn_of, window};
+use dc_base::{
+    Alg, Answer, Class, Event, Flight, Header, Line, LinkId, Memory, Node, Octets, Refusal, Seq,
+    SnLen, Tag, sn_of, window,
+};
 use key_chain::k_upenc;
 use nea2::Aes128;
 use pdcp_pdu::encode_data;
@@ -57,7 +60,13 @@ fn mt_air() -> LinkId
 }
 
 /// The data PDU of a submission, on the air link.
-fn data_flight(alloc: Global, header: &Header, key: &Aes128, count: u32, sdu: &Octets) -> Result<Flight, Memory>
+fn data_flight(
+    alloc: Global,
+    header: &Header,
+    key: &Aes128,
+    count: u32,
+    sdu: &Octets,
+) -> Result<Flight, Memory>
     requires payload { IsPayload sdu.now }
     requires keyed { key.now ≡ upenc (header.now.root ∷ []) (master_key 0) header.now.alg }
     ensures { IfOk result (λ flight. flight ≡ data_flight header.now count sdu.now) }
@@ -116,7 +125,13 @@ impl World {
         if index as usize >= self.air.len() {
             return Ok((Answer::No(Refusal::NoFlight), Seq::new(self.alloc)));
         }
-        let lines = receive(self.alloc, &self.header, &self.key, &mut self.rx, &self.air[index as usize])?;
+        let lines = receive(
+            self.alloc,
+            &self.header,
+            &self.key,
+            &mut self.rx,
+            &self.air[index as usize],
+        )?;
         discard(self.air.remove(index as usize));
         Ok((Answer::Ok, lines))
     }

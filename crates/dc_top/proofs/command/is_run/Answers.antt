@@ -1,4 +1,4 @@
-use Rattle.std.proofs.Common.{string_bytes, sym, ◌∙◌, ap, ◌∷◌, []}
+use Rattle.std.proofs.Common.{string_bytes, ◌∙◌, ap}
 use Rattle.std.specs.Prelude.{bytes_eq, codes}
 use Rattle.dc_top.proofs.Forms.{only_word}
 use Rattle.dc_top.proofs.command.is_run.Goals as goal

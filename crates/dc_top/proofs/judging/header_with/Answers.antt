@@ -1,4 +1,4 @@
-use Rattle.std.proofs.Common.{rules, arith}
+use Rattle.std.proofs.Common.{rules}
 use Rattle.dc_top.proofs.Texts.{no_root}
 use Rattle.dc_top.proofs.judging.header_with.Goals as goal
 

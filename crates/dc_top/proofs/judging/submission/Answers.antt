@@ -1,4 +1,4 @@
-use Rattle.std.proofs.Common.{rules, arith}
+use Rattle.std.proofs.Common.{rules}
 use Rattle.dc_top.proofs.Texts.{no_submission, long_submission, good_submission}
 use Rattle.dc_top.proofs.judging.submission.Goals as goal
 

@@ -1,4 +1,4 @@
-use Rattle.std.proofs.Common.{ℕ, ◌+◌, ◌≤◌, List, length}
+use Rattle.std.proofs.Common.{◌+◌, ◌≤◌, List, length}
 use Rattle.dc_base.specs.declared.events.Event.{Event}
 use Rattle.dc_top.specs.Script.{IsSoFar, HasRead}
 use Rattle.dc_top.proofs.running.run_lines.Given as goal
