@@ -74,7 +74,7 @@ fn names_what_a_report_shows(rt: HostRuntime) {
 }
 
 /// The whole bitmap of two COUNTs.
-fn whole(alloc: Global, fmc: u32, first: u32, second: u32) -> Result<Octets, Fail>
+fn whole_bitmap(alloc: Global, fmc: u32, first: u32, second: u32) -> Result<Octets, Fail>
     requires above { fmc < first }
     requires ascending { first < second }
 {
@@ -119,7 +119,7 @@ fn cuts_a_report_at_9000_octets(rt: HostRuntime) -> Result<(), Fail> {
     let cut = report(rt.alloc(), 0, 71_960, 71_961)?;
     assert_eq!(rt; cut.len(), 9000);
     assert_eq!(rt; cut.as_slice().last().copied(), Some(1));
-    let bits = whole(rt.alloc(), 0, 71_960, 71_961)?;
+    let bits = whole_bitmap(rt.alloc(), 0, 71_960, 71_961)?;
     assert_eq!(rt; bits.len(), 8996);
     assert_eq!(rt; bits.as_slice().last().copied(), Some(128));
     Ok(())

@@ -1,11 +1,10 @@
 -- Laws of the transmitting entity for the layers above: what a confirmation takes away, and how Low moves.
-use Rattle.std.proofs.Common.{ℕ, suc, ◌≡◌, ◌+◌, ◌<◌, ◌≤◌, ◌==◌, ◌&&◌, ◌||◌, ◌-◌, ◌^◌, leb, ltb, not, min, Ok, length, subst, Bool, true, false, List, [], ◌∷◌, ◌++◌, refl, sym, ap, ◌∙◌, arith, inl, inr}
-use Rattle.std.specs.List.{filter, list_any, enumerate_from, range_with_len}
-use Rattle.std.proofs.lemmas.Bool.{cases_Bool, eqb-true, eqb-false, eq-eqb, ne_eqb}
-use Rattle.std.proofs.lemmas.Bool.Decides.{nat_tests}
+use Rattle.std.proofs.Common.{ℕ, suc, ◌≡◌, ◌+◌, ◌≤◌, ◌==◌, ◌&&◌, ◌-◌, ◌^◌, leb, ltb, not, Ok, length, subst, Bool, true, false, List, [], ◌∷◌, ◌++◌, refl, sym, ap, ◌∙◌, arith, inl, inr}
+use Rattle.std.specs.List.{filter, enumerate_from, range_with_len}
+use Rattle.std.proofs.lemmas.Bool.{cases_Bool, eqb-true, eq-eqb}
 use Rattle.dc_base.specs.Count.{window}
 use Rattle.pdcp_pdu.specs.Bitmap.{names}
-use Rattle.pdcp_tx.specs.Sender.{Sender, Entry, least, low, is_kept, Rises, sdu_at}
+use Rattle.pdcp_tx.specs.Sender.{Sender, Entry, least, low, is_kept, Rises}
 use Rattle.pdcp_tx.specs.Sending.{taken, numbered, confirmed, reported}
 use Rattle.pdcp_tx.proofs.Entries.{least-first}
 use Rattle.pdcp_tx.proofs.Places.{without_past}

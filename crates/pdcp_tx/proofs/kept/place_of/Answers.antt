@@ -1,4 +1,4 @@
-use Rattle.std.proofs.Common.{ltb, ℕ, rules}
+use Rattle.std.proofs.Common.{ltb, rules}
 use Rattle.std.proofs.lemmas.List.Sorted.{IsPartitionPoint-from_clause, IsPartitionedBy-ltb}
 use Rattle.pdcp_tx.specs.Sender.{Entry}
 use Rattle.pdcp_tx.proofs.Places.{non_decreasing}

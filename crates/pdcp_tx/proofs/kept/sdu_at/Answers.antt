@@ -1,4 +1,4 @@
-use Rattle.std.proofs.Common.{ℕ, List, Some, ◌≡◌, ◌<◌, ◌≤◌, length, sym, ap, ◌∙◌, rules, arith}
+use Rattle.std.proofs.Common.{ℕ, List, Some, ◌<◌, ◌≤◌, length, sym, ap, ◌∙◌, rules, arith}
 use Rattle.std.proofs.lemmas.List.{get_or_default}
 use Rattle.pdcp_tx.specs.Sender.{Entry}
 use Rattle.pdcp_tx.proofs.Places.{found_there, not_there}

@@ -1,0 +1,12 @@
+use Rattle.std.proofs.Common.{sym, subst}
+use Rattle.forward.specs.Incoming.{CameBelow, AreSmall}
+use Rattle.forward.proofs.Numbers.{below-insert, small-insert}
+use Rattle.forward.proofs.incoming.ForwardIn.take.Goals as goal
+
+pub first_missing-self-inside-requires-clause-below : goal.first_missing-self-inside-requires-clause-below
+first_missing-self-inside-requires-clause-below c =
+    subst (λ m. CameBelow m c.self.inside.missing) (sym c.in_ok-keep.ensures.ok) (below-insert _ _ _ c.self.inside.missing c.self.invariant.below)
+
+pub first_missing-self-inside-requires-clause-small : goal.first_missing-self-inside-requires-clause-small
+first_missing-self-inside-requires-clause-small c =
+    subst AreSmall (sym c.in_ok-keep.ensures.ok) (small-insert _ _ _ c.requires c.self.invariant.small)

@@ -1,0 +1,4 @@
+pub mod Load
+pub mod Outgoing
+pub mod Incoming
+pub mod Tunnel
