@@ -1,16 +1,16 @@
 -- Octets are at most one frame, and what is a frame passes each check.
-use Rattle.std.proofs.Common.{◌≡◌, ℕ, ◌+◌, ◌*◌, ◌++◌, ◌∷◌, ◌/◌, ◌%◌, ◌<◌, ◌≤◌, ◌^◌, Bool, true, false, cond, eqb, ltb, leb, [], List, length, take, drop, Option, Some, None, Result, Ok, Err, is_some, refl, sym, ap, ◌∙◌, append_assoc, arith}
-use Rattle.std.specs.Prelude.{IfSome, IfOk, IfErr, IsSome, MatchResult, ⊤}
+use Rattle.std.proofs.Common.{◌≡◌, ℕ, ◌+◌, ◌*◌, ◌++◌, ◌∷◌, ◌/◌, ◌%◌, ◌<◌, ◌≤◌, ◌^◌, true, false, eqb, ltb, leb, [], List, length, take, drop, Option, Some, None, Result, Ok, Err, is_some, refl, sym, ap, ◌∙◌, arith}
+use Rattle.std.specs.Prelude.{IfSome, IfOk, IfErr, MatchResult}
 use Rattle.std.specs.List.{flat_map, AllByRecursion}
 use Rattle.std.proofs.lemmas.Bool.{le-ltb, lt-leb, false≢true}
-use Rattle.std.proofs.lemmas.List.{take_at, drop_at, take-append-drop, length-append}
+use Rattle.std.proofs.lemmas.List.{take_at, drop_at, length-append}
 use Rattle.nr_u.specs.declared.frame.Range.{Range}
 use Rattle.nr_u.specs.declared.frame.Frame.{Frame}
 use Rattle.nr_u.specs.declared.frame.Frame.TheVariants.{User, Status}
 use Rattle.nr_u.specs.declared.frame.NruErr.{NruErr}
 use Rattle.nr_u.specs.declared.frame.NruErr.TheVariants.{Short, Kind, Ranges, Trailing, Memory}
 use Rattle.nr_u.specs.Frames.{Rising, AreRanges, number, range, optional, is_set, IsFrame}
-use Rattle.nr_u.specs.Faults.{number_of, highest_len, highest_fault, range_fault, padding_fault, status_fault, user_fault, fault_of, IsFaultOf, ◌else◌}
+use Rattle.nr_u.specs.Faults.{number_of, range_fault, padding_fault, status_fault, fault_of, IsFaultOf, ◌else◌}
 use Rattle.nr_u.proofs.Numbers.{number_again}
 use Rattle.nr_u.proofs.Ranges.{range_fault-range}
 

@@ -3,3 +3,8 @@ pub mod Ranges
 pub mod Grammar
 pub mod Status
 pub mod Written
+pub mod ByNumber
+pub mod Gaps
+pub mod KeptLemmas
+pub mod Settled
+pub mod OnStatus

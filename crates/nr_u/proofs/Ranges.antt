@@ -1,16 +1,13 @@
 -- Reading ranges one after the other, as a loop does.
-use Rattle.std.proofs.Common.{◌≡◌, ℕ, ◌+◌, ◌++◌, ◌∷◌, ◌<◌, ◌≤◌, ◌%◌, ◌^◌, ◌/◌, Bool, true, false, cond, ltb, [], List, length, Option, Some, None, refl, sym, ap, ◌∙◌, append_assoc, arith, ◌||◌}
+use Rattle.std.proofs.Common.{◌≡◌, ℕ, ◌+◌, ◌++◌, ◌∷◌, ◌<◌, ◌≤◌, ◌%◌, ◌^◌, false, cond, ltb, [], List, length, Some, refl, sym, ap, ◌∙◌, append_assoc, arith, ◌||◌}
 use Rattle.std.specs.List.{flat_map, AllByRecursion}
-use Rattle.std.specs.Int.{w32, to_be_bytes, from_be_bytes}
-use Rattle.std.proofs.lemmas.Nat.{from_be_bytes-to_be_bytes_4}
-use Rattle.std.proofs.lemmas.Bool.{le-ltb, lt-ltb}
+use Rattle.std.proofs.lemmas.Bool.{le-ltb}
 use Rattle.std.proofs.lemmas.Grind.{flat_map-append}
 use Rattle.std.proofs.lemmas.List.{append-nil, nil_from_length}
 use Rattle.nr_u.specs.declared.frame.Range.{Range}
-use Rattle.nr_u.specs.declared.frame.NruErr.{NruErr}
 use Rattle.nr_u.specs.declared.frame.NruErr.TheVariants.{Ranges}
-use Rattle.nr_u.specs.Frames.{Rising, AreRanges, number, range}
-use Rattle.nr_u.specs.Faults.{number_of, range_fault}
+use Rattle.nr_u.specs.Frames.{Rising, AreRanges, range}
+use Rattle.nr_u.specs.Faults.{range_fault}
 use Rattle.nr_u.proofs.Numbers.{number_again}
 
 -- the ranges found so far, what is left of the octets and its place; low is past the last range

@@ -1,12 +1,10 @@
 -- What is written is the frame, and fits a container.
-use Rattle.std.proofs.Common.{◌≡◌, ℕ, ◌+◌, ◌-◌, ◌*◌, ◌++◌, ◌∷◌, ◌/◌, ◌%◌, ◌<◌, ◌≤◌, ◌^◌, Bool, true, false, cond, [], List, length, Option, Some, None, is_some, refl, sym, ap, ◌∙◌, arith}
-use Rattle.std.specs.Prelude.{IfSome, replicate}
-use Rattle.std.specs.List.{flat_map}
+use Rattle.std.proofs.Common.{ℕ, ◌-◌, ◌∷◌, ◌%◌, ◌≤◌, true, false, length, Some, None, refl, arith}
+use Rattle.std.specs.Prelude.{replicate}
 use Rattle.std.proofs.lemmas.List.{length-append, length-replicate}
-use Rattle.nr_u.specs.declared.frame.Range.{Range}
 use Rattle.nr_u.specs.declared.frame.Frame.{Frame}
 use Rattle.nr_u.specs.declared.frame.Frame.TheVariants.{User, Status}
-use Rattle.nr_u.specs.Frames.{AreRanges, range, optional, fields, flag, first_octet, padded, written, is_set, IsFirst, Fits, IsWritable, IsFrame}
+use Rattle.nr_u.specs.Frames.{fields, first_octet, written, IsFirst, Fits, IsWritable, IsFrame}
 use Rattle.nr_u.proofs.Grammar.{length-ranges}
 
 first_is : (f : Frame) → IsFirst (first_octet f) f

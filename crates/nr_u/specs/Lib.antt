@@ -1,2 +1,7 @@
 pub mod Frames
 pub mod Faults
+pub mod Incoming
+pub mod Kept
+pub mod Delivery
+pub mod Outgoing
+pub mod Verdicts

@@ -1,5 +1,5 @@
 use super::*;
-use dc_base::Seq;
+use dc_base::{Seq, SnLen, Tag};
 use std::test::Fail;
 
 const LOST_0: [u8; 14] = [0x11, 1, 0, 0, 1, 0, 0, 0, 0, 0, 0, 0, 0, 0];
@@ -90,4 +90,43 @@ fn faults(rt: HostRuntime) {
     for (octets, fault) in rows {
         assert_eq!(rt; decode(rt.alloc(), octets).err(), Some(fault));
     }
+}
+
+#[tactic(auto, unfolding(dc_base::specs::Count::modulus))]
+#[test]
+fn the_second_of_three_is_lost(rt: HostRuntime) {
+    let mut sent = Outbound::new(rt.alloc(), SnLen::S12);
+    let first = sent.sent(Some(0), false).expect(&rt, "memory");
+    let second = sent.sent(Some(1), false).expect(&rt, "memory");
+    let third = sent.sent(Some(2), false).expect(&rt, "memory");
+    assert_eq!(rt; (first, second, third), (0, 1, 2));
+
+    let mut host = Inbound::new(rt.alloc(), SnLen::S12);
+    assert!(rt;
+        host.came(0, Some(0), false, Tag::count(0))
+            .expect(&rt, "memory")
+    );
+    assert!(rt;
+        host.came(2, Some(2), false, Tag::count(2))
+            .expect(&rt, "memory")
+    );
+    host.acked(0);
+    host.acked(1);
+    let (early, _) = host.status().expect(&rt, "memory");
+    if let Frame::Status { highest, .. } = &early {
+        assert_eq!(rt; *highest, Some(0));
+    }
+    host.acked(2);
+    let (f, tag) = host.status().expect(&rt, "memory");
+    assert_eq!(rt; tag, Tag::count(2));
+    if let Frame::Status { highest, lost } = &f {
+        assert_eq!(rt; *highest, Some(2));
+        assert_eq!(rt; lost.as_slice(), [Range { from: 1, to: 1 }].as_slice());
+    }
+
+    let verdict = sent.on_status(0, &f).expect(&rt, "memory");
+    assert_eq!(rt; verdict.confirmed.as_slice(), [0, 2].as_slice());
+    assert_eq!(rt; verdict.again.as_slice(), [1].as_slice());
+    let verdict = sent.on_status(0, &f).expect(&rt, "memory");
+    assert_eq!(rt; verdict.again.len(), 0);
 }

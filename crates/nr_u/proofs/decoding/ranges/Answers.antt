@@ -1,4 +1,4 @@
-use Rattle.std.proofs.Common.{arith, sym}
+use Rattle.std.proofs.Common.{sym}
 use Rattle.std.proofs.lemmas.Bool.{eqb-true}
 use Rattle.nr_u.proofs.Ranges.{reads_range, reads_all}
 use Rattle.nr_u.proofs.decoding.ranges.Goals as goal

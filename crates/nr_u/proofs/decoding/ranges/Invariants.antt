@@ -1,8 +1,4 @@
-use Rattle.std.proofs.Common.{◌≡◌, ◌+◌, ◌++◌, ◌≤◌, ◌%◌, ◌^◌, List, length}
-use Rattle.std.specs.List.{flat_map, AllByRecursion}
-use Rattle.nr_u.specs.declared.frame.Range.{Range}
-use Rattle.nr_u.specs.Frames.{Rising, range}
-use Rattle.nr_u.specs.Faults.{range_fault}
+use Rattle.std.proofs.Common.{length}
 use Rattle.nr_u.proofs.Ranges.{Reading}
 use Rattle.nr_u.proofs.decoding.ranges.Given as goal
 

@@ -1,0 +1,3 @@
+mod Outstanding
+mod Firsts
+mod Acks

@@ -1,0 +1,11 @@
+-- What is seen of the stored policies: the two numbers of each.
+use Rattle.std.specs.Prelude.{List, map}
+use Rattle.split_leg.specs.declared.policies.Policy.{Policy}
+use Rattle.split_leg.specs.declared.policies.Policies.{Policies}
+use Rattle.split_leg.specs.Routing.{Margins}
+
+abbrev pub margins_of : {T : _} {S : _} {g : _} → Policy T S g → Margins
+margins_of policy = record { plus = policy.plus; minus = policy.minus }
+
+abbrev pub margins : {T : _} {S : _} {g : _} → Policies T S g → List Margins
+margins policies = map margins_of policies.list.items
