@@ -1,21 +1,22 @@
 //! The command line, read and run.
 
-ghost use Rattle.std.specs.Prelude.{◌≡◌, ◌↔◌, ℕ, ◌<◌, ◌≤◌, List, [], ◌∷◌, length, codes, Some, IsTrue, map, string_bytes};
+ghost use Rattle.std.specs.Prelude.{◌≡◌, ◌↔◌, ◌⊎◌, ℕ, ◌<◌, ◌≤◌, List, [], ◌∷◌, length, codes, Some, IsTrue, map, string_bytes};
 ghost use Rattle.dc_base.specs.declared.answers.Status.{Status};
 ghost use Rattle.dc_outside.specs.Faults.{Rose};
 ghost use Rattle.dc_top.specs.Script.{most_octets};
-ghost use Rattle.dc_top.specs.Command.{HasEnded};
+ghost use Rattle.dc_top.specs.Command.{HasEnded, HasWritten, IsRun, IsNoOther};
 
 use crate::faults::write_fault;
 use crate::reading::{Unread, read_all};
 use crate::running::run_script;
 use dc_base::Status;
+use dc_forms::run_form;
 use dc_outside::{Sink, Source};
 use std::alloc::Global;
 
-/// Whether the words are the one form that is built: `run`.
+/// Whether the words are the form that reads a script: `run`.
 fn is_run(words: &[String]) -> bool
-    ensures { IsTrue result ↔ (map string_bytes words.now ≡ codes "run" ∷ []) }
+    ensures { IsTrue result ↔ IsRun (map string_bytes words.now) }
 {
     match words {
         [word] => word.as_str() == "run",
@@ -28,7 +29,7 @@ fn write_run<K: Sink>(alloc: Global, input: &[u8], out: &mut K) -> Status
     requires { length input.now ≤ most_octets }
     ensures ended { HasEnded input.now result (K.put_out out.old) (K.put_out out.new) }
     ensures fault { result ≡ Status.WriteFault → Rose (K.fault_count out.old) (K.fault_count out.new) }
-    ensures used { (result ≡ Status.Usage → ⊥) × (result ≡ Status.ReadFault → ⊥) × (result ≡ Status.TooLong → ⊥) }
+    ensures others { (result ≡ Status.Usage → ⊥) × (result ≡ Status.ReadFault → ⊥) × (result ≡ Status.TooLong → ⊥) }
 {
     let Ok(ran) = run_script(alloc, input) else {
         return Status::Memory;
@@ -48,7 +49,7 @@ fn run<S: Source, K: Sink>(alloc: Global, src: &mut S, out: &mut K) -> Status
     ensures read_fault { result ≡ Status.ReadFault → Rose (S.fault_count src.old) (S.fault_count src.new) }
     ensures write_fault { result ≡ Status.WriteFault → Rose (K.fault_count out.old) (K.fault_count out.new) }
     ensures too_long { result ≡ Status.TooLong → (input : List ℕ) → S.left src.old ≡ Some input → most_octets < length input }
-    ensures used { result ≡ Status.Usage → ⊥ }
+    ensures others { result ≡ Status.Usage → ⊥ }
 {
     match read_all(alloc, src) {
         Ok(input) => write_run(alloc, input.as_slice(), out),
@@ -58,25 +59,42 @@ fn run<S: Source, K: Sink>(alloc: Global, src: &mut S, out: &mut K) -> Status
     }
 }
 
-/// The top call: runs the program on the words of its command line, without its name, and answers the status that it
-/// ends with. The one form that is built is `run`: it reads a script from `src` and writes the transcript to `out`; any
-/// other words are `Usage`, and nothing is read or written. A fault text goes to `err`, whose faults change nothing.
-pub fn run_command<S: Source, K: Sink, E: Sink>(
-    alloc: Global,
-    words: &[String],
-    src: &mut S,
-    out: &mut K,
-    err: &mut E,
-) -> Status
-    // Which words are none of the forms.
-    ensures usage { (result ≡ Status.Usage) ↔ ((map string_bytes words.now ≡ codes "run" ∷ []) → ⊥) }
-    ensures unused { result ≡ Status.Usage → (src.new ≡ src.old) × (out.new ≡ out.old) }
+/// Writes what one of the other forms does.
+fn write_form<K: Sink>(alloc: Global, words: &[String], out: &mut K) -> Status
+    ensures written { HasWritten (map string_bytes words.now) result (K.put_out out.old) (K.put_out out.new) }
+    ensures usage { result ≡ Status.Usage → IsNoOther (map string_bytes words.now) }
+    ensures no_form { IsNoOther (map string_bytes words.now) → (result ≡ Status.Usage) ⊎ (result ≡ Status.Memory) }
+    ensures fault { result ≡ Status.WriteFault → Rose (K.fault_count out.old) (K.fault_count out.new) }
+    ensures others { (result ≡ Status.ReadFault → ⊥) × (result ≡ Status.TooLong → ⊥) }
+{
+    match run_form(alloc, words) {
+        Ok(None) => Status::Usage,
+        Ok(Some(text)) => match out.write_all(text.as_slice()) {
+            Ok(()) => Status::Ok,
+            Err(_) => Status::WriteFault,
+        },
+        Err(_) => Status::Memory,
+    }
+}
 
-    // What was written, where source and sink tell their octets: the run theorem stands here.
-    ensures ended { (map string_bytes words.now ≡ codes "run" ∷ []) → (input : List ℕ) → S.left src.old ≡ Some input
+/// The top call: runs the program on the words of its command line, without its name, and answers the status that it
+/// ends with. `run` reads a script from `src` and writes the transcript to `out`. `keys`, `nea2` and `show` write what
+/// their words say, and read nothing. Any other words are `Usage`. A fault text goes to `err`, whose faults change
+/// nothing.
+pub fn run_command<S: Source, K: Sink, E: Sink>(alloc: Global, words: &[String], src: &mut S, out: &mut K, err: &mut E) -> Status
+    // A run: what was written, where source and sink tell their octets. The run theorem stands here.
+    ensures ended { IsRun (map string_bytes words.now) → (input : List ℕ) → S.left src.old ≡ Some input
         → HasEnded input result (K.put_out out.old) (K.put_out out.new) }
 
-    // When the other answers come.
+    // Another form, or none: what was written, and that nothing was read.
+    ensures written { (IsRun (map string_bytes words.now) → ⊥)
+        → HasWritten (map string_bytes words.now) result (K.put_out out.old) (K.put_out out.new) }
+    ensures unread { (IsRun (map string_bytes words.now) → ⊥) → src.new ≡ src.old }
+
+    // When the answers other than Ok come.
+    ensures usage { result ≡ Status.Usage → (IsRun (map string_bytes words.now) → ⊥) × IsNoOther (map string_bytes words.now) }
+    ensures no_form { (IsRun (map string_bytes words.now) → ⊥) → IsNoOther (map string_bytes words.now)
+        → (result ≡ Status.Usage) ⊎ (result ≡ Status.Memory) }
     ensures read_fault { result ≡ Status.ReadFault → Rose (S.fault_count src.old) (S.fault_count src.new) }
     ensures write_fault { result ≡ Status.WriteFault → Rose (K.fault_count out.old) (K.fault_count out.new) }
     ensures too_long { result ≡ Status.TooLong → (input : List ℕ) → S.left src.old ≡ Some input → most_octets < length input }
@@ -84,7 +102,7 @@ pub fn run_command<S: Source, K: Sink, E: Sink>(
     let status = if is_run(words) {
         run(alloc, src, out)
     } else {
-        Status::Usage
+        write_form(alloc, words, out)
     };
     write_fault(status, err);
     status

@@ -4,8 +4,14 @@
 mod fields;
 mod flights;
 mod lines;
+mod places;
+mod reading;
+mod scripted;
+mod spelling;
 #[cfg(test)]
 mod tests;
 mod words;
 
 pub use lines::{write_header, write_line};
+pub use reading::{read_header, read_line};
+pub use scripted::{LineFault, Scripted};

@@ -1,6 +1,6 @@
 //! Rows worked by hand.
 
-use crate::{write_header, write_line};
+use crate::{LineFault, Scripted, read_header, read_line, write_header, write_line};
 use dc_base::{
     Alg, Answer, Cell, Class, Dir, DrbId, Event, Flight, Header, Item, KeyName, LegSet, Line,
     LinkId, Memory, Node, Note, Octets, Plan, Rec, Refusal, Seq, Shape, Side, SnLen,
@@ -282,5 +282,88 @@ fn a_header_is_written(rt: HostRuntime) -> Result<(), Fail> {
         written.as_slice(),
         b"dcs1 nea0 0 0000000000000000000000000000000000000000000000000000000000000000".as_slice()
     );
+    Ok(())
+}
+
+/// Whether the lines are read as events that are written so.
+fn are_read(rt: &impl Abort, alloc: Global, lines: &[&str]) -> Result<(), Fail> {
+    for text in lines {
+        assert!(rt; text.len() <= 20_000);
+        match read_line(alloc, text.as_bytes())? {
+            Scripted::One(event) => are_written(rt, alloc, &[(Line::Event(event), *text)])?,
+            Scripted::Drain => assert_eq!(rt; text.as_bytes(), b"drain".as_slice()),
+        }
+    }
+    Ok(())
+}
+
+#[test]
+fn each_line_of_a_script_is_read(rt: HostRuntime) -> Result<(), Fail> {
+    let lines = [
+        "bearer 32 18 4294967294 mxsd 4294967295 255",
+        "shape 1 sxm",
+        "drop 1",
+        "add a",
+        "change",
+        "release",
+        "rekey s",
+        "rekey m 1111111111111111111111111111111111111111111111111111111111111111",
+        "recover 1",
+        "report t 1",
+        "deny b off",
+        "want a release",
+        "scgfail",
+        "ul 1 00",
+        "dl 1 6869",
+        "step mt.air 0",
+        "lose ma.tun 4294967295",
+        "again ba.tun 1",
+        "drain",
+    ];
+    are_read(&rt, rt.alloc(), &lines)
+}
+
+#[test]
+fn the_column_of_a_bad_line(rt: HostRuntime) -> Result<(), Fail> {
+    let rows = [
+        ("step mt.air 01", 13),
+        ("bearer 1 13 0 mm 0 0", 10),
+        ("drain x", 7),
+        ("add", 4),
+        ("dl 1 ", 6),
+        ("dl 33 00", 4),
+        ("", 1),
+        ("add t", 5),
+        ("shape 1 mmd", 9),
+        ("step ta.feed 0", 6),
+        ("bearer 1 12 4294967295 mm 0 0", 13),
+        ("bearer 1  0 mm 0 0", 10),
+        ("rekey", 6),
+        ("rekey x", 7),
+        ("rekey m 11", 9),
+    ];
+    for (line, column) in rows {
+        assert!(rt; line.len() <= 20_000);
+        match read_line(rt.alloc(), line.as_bytes()) {
+            Ok(_) => assert!(rt; false, "{line}"),
+            Err(fault) => assert_eq!(rt; fault, LineFault::Column(column), "{line}"),
+        }
+    }
+    Ok(())
+}
+
+#[test]
+fn a_header_is_read(rt: HostRuntime) -> Result<(), Fail> {
+    let header = read_header(
+        b"dcs1 nea2 65536 1111111111111111111111111111111111111111111111111111111111111111",
+    )?;
+    let expected = Header {
+        alg: Alg::Nea2,
+        used: 65_536,
+        root: [0x11; 32],
+    };
+    assert_eq!(rt; header, expected);
+    assert_eq!(rt; read_header(b"dcs1 nea0 65537"), Err(LineFault::Column(11)));
+    assert_eq!(rt; read_header(b"drain"), Err(LineFault::Column(1)));
     Ok(())
 }

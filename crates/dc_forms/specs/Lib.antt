@@ -1,0 +1,3 @@
+-- the definitions that contracts cite
+pub mod Forms
+pub mod Shown

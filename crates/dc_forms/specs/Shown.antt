@@ -1,0 +1,133 @@
+-- What octets are shown as: one line, also for octets that are none of the kind.
+use Rattle.std.specs.Prelude.{◌≡◌, ℕ, ◌+◌, ◌*◌, ◌==◌, ◌⊎◌, Bool, true, false, if◌then◌else◌, List, [], ◌∷◌, ◌++◌, length, codes, map, Option, Some, None, Result, Ok, Err, zero, suc, ◌≤◌, ⊤}
+use Rattle.std.specs.List.{flat_map}
+use Rattle.std.specs.Fmt.{decimal}
+use Rattle.hex.specs.Hex.{encode_lower}
+use Rattle.dc_base.specs.declared.numbers.SnLen.{SnLen}
+use Rattle.dc_base.specs.declared.numbers.SnLen.TheVariants.{S12, S18}
+use Rattle.pdcp_pdu.specs.Bitmap.{is_shown}
+use Rattle.pdcp_pdu.specs.Pdu.{Content, sdu, report, decoded}
+use Rattle.pdcp_pdu.specs.declared.pdu.PduErr.{PduErr}
+use Rattle.pdcp_pdu.specs.declared.pdu.PduErr.TheVariants as pdu
+use Rattle.gtpu.specs.Content.{Content as Said}
+use Rattle.gtpu.specs.Grammar.{IsPacket}
+use Rattle.gtpu.specs.Fault.{HasFault}
+use Rattle.gtpu.specs.declared.packet.GtpKind.{GtpKind}
+use Rattle.gtpu.specs.declared.packet.GtpKind.TheVariants.{GPdu, EndMarker, EchoRequest, EchoResponse, ErrorIndication}
+use Rattle.gtpu.specs.declared.packet.PduNumber.{PduNumber}
+use Rattle.gtpu.specs.declared.packet.PduNumber.TheVariants.{Short, Long}
+use Rattle.gtpu.specs.declared.faults.GtpErr.{GtpErr}
+use Rattle.gtpu.specs.declared.faults.GtpErr.TheVariants as gtp
+use Rattle.nr_u.specs.Frames.{IsFrame}
+use Rattle.nr_u.specs.Faults.{IsFaultOf}
+use Rattle.nr_u.specs.declared.frame.Frame.{Frame}
+use Rattle.nr_u.specs.declared.frame.Frame.TheVariants.{User, Status}
+use Rattle.nr_u.specs.declared.frame.Range.{Range}
+use Rattle.nr_u.specs.declared.frame.NruErr.{NruErr}
+use Rattle.nr_u.specs.declared.frame.NruErr.TheVariants as nru
+use Rattle.transcript.specs.Text.{ended}
+use Rattle.dc_forms.specs.declared.form.Kind.{Kind}
+use Rattle.dc_forms.specs.declared.form.Kind.TheVariants.{Pdu12, Pdu18, Gtp, Nru}
+
+-- a word and a number
+abbrev pub numbered : List ℕ → ℕ → List ℕ
+numbered word n = word ++ decimal n
+
+-- octets of no kind: the word of the first check that fails, and its place
+abbrev pub bad : List ℕ → ℕ → List ℕ
+bad word place = numbered (codes "bad " ++ word ++ codes " ") place
+
+-- ---- PDCP PDUs
+
+-- the COUNT above FMC of bit k of a bitmap, if the bit is 1
+abbrev pub shown_at : ℕ → List ℕ → ℕ → List ℕ
+shown_at fmc bits k = if is_shown bits k then numbered (codes " ") (fmc + k) else []
+
+-- so many of them, from bit k on
+abbrev pub shown_from : ℕ → List ℕ → ℕ → ℕ → List ℕ
+shown_from fmc bits k zero = []
+shown_from fmc bits k (suc n) = shown_at fmc bits k ++ shown_from fmc bits (k + 1) n
+
+-- the COUNTs, after a word if there is one
+abbrev pub received : List ℕ → List ℕ
+received [] = []
+received (o ∷ os) = codes " received" ++ o ∷ os
+
+abbrev pub pdu_text : Result Content PduErr → List ℕ
+pdu_text (Ok (sdu sn body)) = numbered (codes "data sn ") sn ++ codes " body " ++ encode_lower body
+pdu_text (Ok (report fmc bits)) = numbered (codes "report fmc ") fmc ++ received (shown_from fmc bits 1 (8 * length bits))
+pdu_text (Err (pdu.Short place)) = bad (codes "short") place
+pdu_text (Err (pdu.ControlKind place)) = bad (codes "controlkind") place
+pdu_text (Err (pdu.TooLong place)) = bad (codes "toolong") place
+pdu_text (Err (pdu.BadReport place)) = bad (codes "badreport") place
+
+-- ---- GTP-U packets
+
+abbrev pub kind_name : GtpKind → List ℕ
+kind_name GPdu = codes "gpdu"
+kind_name EndMarker = codes "endmarker"
+kind_name EchoRequest = codes "echorequest"
+kind_name EchoResponse = codes "echoresponse"
+kind_name ErrorIndication = codes "errorindication"
+
+abbrev pub container_text : Option (List ℕ) → List ℕ
+container_text None = []
+container_text (Some octets) = codes " container " ++ encode_lower octets
+
+abbrev pub number_text : Option PduNumber → List ℕ
+number_text None = []
+number_text (Some (Short n)) = numbered (codes " number ") n
+number_text (Some (Long n)) = numbered (codes " number ") n
+
+abbrev pub body_text : List ℕ → List ℕ
+body_text [] = []
+body_text (o ∷ os) = codes " body " ++ encode_lower (o ∷ os)
+
+abbrev pub packet_text : Said → List ℕ
+packet_text p = kind_name p.kind ++ numbered (codes " teid ") p.teid ++ container_text p.container ++ number_text p.number ++ body_text p.body
+
+abbrev pub gtp_fault_text : GtpErr → List ℕ
+gtp_fault_text (gtp.Short place) = bad (codes "short") place
+gtp_fault_text (gtp.Version place) = bad (codes "version") place
+gtp_fault_text (gtp.Length place) = bad (codes "length") place
+gtp_fault_text (gtp.Extension place) = bad (codes "extension") place
+gtp_fault_text (gtp.UnknownRequired place) = bad (codes "unknownrequired") place
+gtp_fault_text (gtp.Kind place) = bad (codes "kind") place
+
+-- ---- NR-U frames
+
+abbrev pub flag : Bool → List ℕ
+flag true = codes "1"
+flag false = codes "0"
+
+abbrev pub range_text : Range → List ℕ
+range_text r = numbered (codes " ") r.from ++ numbered (codes "-") r.to
+
+abbrev pub highest_text : Option ℕ → List ℕ
+highest_text None = []
+highest_text (Some sn) = numbered (codes " highest ") sn
+
+abbrev pub lost_text : List Range → List ℕ
+lost_text [] = []
+lost_text (r ∷ rs) = codes " lost" ++ flat_map range_text (r ∷ rs)
+
+abbrev pub frame_text : Frame → List ℕ
+frame_text (User n user repeat) = numbered (codes "user number ") n ++ codes " user " ++ flag user ++ codes " repeat " ++ flag repeat
+frame_text (Status highest lost) = codes "status" ++ highest_text highest ++ lost_text lost
+
+abbrev pub nru_fault_text : NruErr → List ℕ
+nru_fault_text (nru.Short place) = bad (codes "short") place
+nru_fault_text (nru.Kind place) = bad (codes "kind") place
+nru_fault_text (nru.Ranges place) = bad (codes "ranges") place
+nru_fault_text (nru.Trailing place) = bad (codes "trailing") place
+nru_fault_text nru.Memory = []
+
+-- ---- any of these
+
+abbrev pub IsShown : Kind → List ℕ → List ℕ → Type 0
+IsShown Pdu12 octets text = text ≡ ended (pdu_text (decoded S12 octets))
+IsShown Pdu18 octets text = text ≡ ended (pdu_text (decoded S18 octets))
+IsShown Gtp octets text =
+    ((p : Said) × IsPacket p octets × (text ≡ ended (packet_text p))) ⊎ ((e : GtpErr) × HasFault octets e × (text ≡ ended (gtp_fault_text e)))
+IsShown Nru octets text =
+    ((f : Frame) × IsFrame octets f × (text ≡ ended (frame_text f))) ⊎ ((e : NruErr) × IsFaultOf octets e × (text ≡ ended (nru_fault_text e)))

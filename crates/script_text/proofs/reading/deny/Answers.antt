@@ -1,0 +1,15 @@
+use Rattle.std.proofs.Common.{[], ◌∷◌}
+use Rattle.std.proofs.lemmas.Result.{err_from_is_err_and}
+use Rattle.script_text.specs.Grammar.{State}
+use Rattle.script_text.proofs.Taking.{later}
+use Rattle.script_text.proofs.reading.deny.Goals as goal
+
+pub returns-in_err-node-clause-fault : goal.returns-in_err-node-clause-fault
+returns-in_err-node-clause-fault c =
+    let p = err_from_is_err_and c.from_residual.result c.from_residual.ensures.1 in
+    rw (p.1, p.2) (c.in_err-node.ensures.fault (State ∷ []))
+
+pub returns-in_err-on-clause-fault : goal.returns-in_err-on-clause-fault
+returns-in_err-on-clause-fault c =
+    let p = err_from_is_err_and c.from_residual-in_err-on.result c.from_residual-in_err-on.ensures.1 in
+    rw (p.1, p.2) (later _ (State ∷ []) _ _ _ _ _ c.in_ok-node.ensures.taken (c.in_err-on.ensures.fault []))
