@@ -81,7 +81,13 @@ fn write_form<K: Sink>(alloc: Global, words: &[String], out: &mut K) -> Status
 /// ends with. `run` reads a script from `src` and writes the transcript to `out`. `keys`, `nea2` and `show` write what
 /// their words say, and read nothing. Any other words are `Usage`. A fault text goes to `err`, whose faults change
 /// nothing.
-pub fn run_command<S: Source, K: Sink, E: Sink>(alloc: Global, words: &[String], src: &mut S, out: &mut K, err: &mut E) -> Status
+pub fn run_command<S: Source, K: Sink, E: Sink>(
+    alloc: Global,
+    words: &[String],
+    src: &mut S,
+    out: &mut K,
+    err: &mut E,
+) -> Status
     // A run: what was written, where source and sink tell their octets. The run theorem stands here.
     ensures ended { IsRun (map string_bytes words.now) → (input : List ℕ) → S.left src.old ≡ Some input
         → HasEnded input result (K.put_out out.old) (K.put_out out.new) }
