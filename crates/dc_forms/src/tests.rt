@@ -2,15 +2,15 @@ use super::run_form;
 use std::alloc::Global;
 use std::test::Fail;
 
-/// What these words write, nothing where they are no form.
-fn text(alloc: Global, words: &[&str]) -> Result<Option<String>, Fail> {
+/// What these words write: no text where they are no form.
+fn text(alloc: Global, words: &[&str]) -> Result<String, Fail> {
     let mut line = Vec::new(alloc);
     for word in words {
         line.push(String::from_str(alloc, word)?)?;
     }
     match run_form(alloc, line.as_slice()) {
-        Ok(None) => Ok(None),
-        Ok(Some(text)) => Ok(Some(String::from_utf8(text.into_vec())?)),
+        Ok(None) => Ok(String::new(alloc)),
+        Ok(Some(text)) => Ok(String::from_utf8(text.into_vec())?),
         Err(_) => Err(Fail::from("memory")),
     }
 }
@@ -24,61 +24,52 @@ fn forms_and_what_they_write(rt: HostRuntime) -> Result<(), Fail> {
     let zeros =
         "000000000000000000000000000000000000000000000000000000000000000000000000000000000000000000000000";
     let root = "1111111111111111111111111111111111111111111111111111111111111111";
-    let rows: [(&[&str], Option<&str>); 16] = [
+    let rows: [(&[&str], &str); 16] = [
         (
             &["keys", root, "0"],
-            Some(
-                "master-upenc 69d9bb07d09b3acc24b64db5ba4d6c16\nksn f3099172e2616de12fd20d31ac2827c15f2ba1ba988705b9bce236a1eebd3d57\nsecond-upenc e1e81a315519e734763397b85296529a\n",
-            ),
+            "master-upenc 69d9bb07d09b3acc24b64db5ba4d6c16\nksn f3099172e2616de12fd20d31ac2827c15f2ba1ba988705b9bce236a1eebd3d57\nsecond-upenc e1e81a315519e734763397b85296529a\n",
         ),
-        (&["keys", root, "65536"], None),
+        (&["keys", root, "65536"], ""),
         (
             &["nea2", zero_key, "0", "1", "ul", zeros],
-            Some(
-                "66e94bd4ef8a2c3b884cfa59ca342b2e58e2fccefa7e3061367f1d57a4e7455a0388dace60b6a392f328c2b971b2fe78\n",
-            ),
+            "66e94bd4ef8a2c3b884cfa59ca342b2e58e2fccefa7e3061367f1d57a4e7455a0388dace60b6a392f328c2b971b2fe78\n",
         ),
-        (&["nea2", zero_key, "0", "33", "ul", zeros], None),
-        (&["nea2", zero_key, "00", "1", "ul", zeros], None),
+        (&["nea2", zero_key, "0", "33", "ul", zeros], ""),
+        (&["nea2", zero_key, "00", "1", "ul", zeros], ""),
         (
             &["show", "pdu12", "000000000560"],
-            Some("report fmc 5 received 7 8\n"),
+            "report fmc 5 received 7 8\n",
         ),
-        (&["show", "pdu18", "0000000005"], Some("report fmc 5\n")),
-        (
-            &["show", "pdu12", "80006869"],
-            Some("data sn 0 body 6869\n"),
-        ),
-        (&["show", "pdu12", "80"], Some("bad short 1\n")),
-        (&["show", "pdu12", ""], None),
+        (&["show", "pdu18", "0000000005"], "report fmc 5\n"),
+        (&["show", "pdu12", "80006869"], "data sn 0 body 6869\n"),
+        (&["show", "pdu12", "80"], "bad short 1\n"),
+        (&["show", "pdu12", ""], ""),
         (
             &[
                 "show",
                 "gtp",
                 "34ff00100000008000000084020100000000000080006869",
             ],
-            Some("gpdu teid 128 container 010000000000 body 80006869\n"),
+            "gpdu teid 128 container 010000000000 body 80006869\n",
         ),
         (
             &["show", "gtp", "34ff000c00000080000000ff01aabb0080006869"],
-            Some("bad unknownrequired 11\n"),
+            "bad unknownrequired 11\n",
         ),
         (
             &["show", "nru", "1101000001000000000000000000"],
-            Some("status highest 1 lost 0-0\n"),
+            "status highest 1 lost 0-0\n",
         ),
         (
             &["show", "nru", "010000000000"],
-            Some("user number 0 user 1 repeat 0\n"),
+            "user number 0 user 1 repeat 0\n",
         ),
-        (&["show", "nru", "20"], Some("bad kind 0\n")),
-        (&["show", "pdu13", "80"], None),
+        (&["show", "nru", "20"], "bad kind 0\n"),
+        (&["show", "pdu13", "80"], ""),
     ];
     for (words, line) in rows {
-        assert_eq!(rt;
-            text(alloc, words)?.as_ref().map(|text| text.as_str()),
-            line
-        );
+        let written = text(alloc, words)?;
+        assert_eq!(rt; written.as_str(), line);
     }
     Ok(())
 }
