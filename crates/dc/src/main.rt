@@ -6,9 +6,8 @@ use dc_base::Status;
 use dc_outside::{StdSink, StdSource};
 use dc_top::run_command;
 use std::alloc::AllocError;
-use std::env;
-use std::io;
 use std::process::ExitCode;
+use std::{env, io};
 
 /// The number of a status, with which the program ends.
 fn number(status: Status) -> u8 {
