@@ -27,6 +27,7 @@ IsForm (Keys root counter) = AreOctets 32 32 root × (counter ≤ 65535)
 IsForm (Cipher key count id dir text) = AreOctets 16 16 key × (count ≤ 4294967295) × (1 ≤ id) × (id ≤ 32) × AreOctets 1 9000 text
 IsForm (Show kind octets) = IsBytes octets × (1 ≤ length octets)
 
+-- the word after `show`, for a PDCP PDU with an SN of 12 or of 18 bits, a GTP-U packet or an NR-U frame
 abbrev pub kind_word : Kind → List ℕ
 kind_word Pdu12 = codes "pdu12"
 kind_word Pdu18 = codes "pdu18"
@@ -62,5 +63,6 @@ pub record IsFormText (words : List (List ℕ)) (text : List ℕ) : Type 0 where
   pub worded : words ≡ words_of form
   pub output : IsOutput form text
 
+-- the text that words of a command line write as one of the forms; None, where they are none of them
 abbrev pub HasFormText : List (List ℕ) → Option (List ℕ) → Type 0
 HasFormText words found = MatchOption found ((f : Form) → IsForm f → words ≢ words_of f) (λ text. IsFormText words text)

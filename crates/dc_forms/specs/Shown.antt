@@ -53,6 +53,7 @@ abbrev pub received : List ℕ → List ℕ
 received [] = []
 received (o ∷ os) = codes " received" ++ o ∷ os
 
+-- what a PDCP PDU says: an SN and its SDU, or FMC and the received COUNTs above it; or why octets are none
 abbrev pub pdu_text : Result Content PduErr → List ℕ
 pdu_text (Ok (sdu sn body)) = numbered (codes "data sn ") sn ++ codes " body " ++ encode_lower body
 pdu_text (Ok (report fmc bits)) = numbered (codes "report fmc ") fmc ++ received (shown_from fmc bits 1 (8 * length bits))
@@ -63,6 +64,7 @@ pdu_text (Err (pdu.BadReport place)) = bad (codes "badreport") place
 
 -- ---- GTP-U packets
 
+-- the word for a packet's message type (TS 29.281, 6.1)
 abbrev pub kind_name : GtpKind → List ℕ
 kind_name GPdu = codes "gpdu"
 kind_name EndMarker = codes "endmarker"
@@ -70,22 +72,27 @@ kind_name EchoRequest = codes "echorequest"
 kind_name EchoResponse = codes "echoresponse"
 kind_name ErrorIndication = codes "errorindication"
 
+-- the content of a packet's NR RAN container; nothing for a packet that has none (None)
 abbrev pub container_text : Option (List ℕ) → List ℕ
 container_text None = []
 container_text (Some octets) = codes " container " ++ encode_lower octets
 
+-- a packet's PDCP PDU number, written alike if short or long; nothing for a packet that has none (None)
 abbrev pub number_text : Option PduNumber → List ℕ
 number_text None = []
 number_text (Some (Short n)) = numbered (codes " number ") n
 number_text (Some (Long n)) = numbered (codes " number ") n
 
+-- all octets behind a packet's header; nothing where there are none
 abbrev pub body_text : List ℕ → List ℕ
 body_text [] = []
 body_text (o ∷ os) = codes " body " ++ encode_lower (o ∷ os)
 
+-- what a packet says: its message type and TEID, and then those of container, number and body that it has
 abbrev pub packet_text : Said → List ℕ
 packet_text p = kind_name p.kind ++ numbered (codes " teid ") p.teid ++ container_text p.container ++ number_text p.number ++ body_text p.body
 
+-- why octets are no packet: the first check that fails, and its place
 abbrev pub gtp_fault_text : GtpErr → List ℕ
 gtp_fault_text (gtp.Short place) = bad (codes "short") place
 gtp_fault_text (gtp.Version place) = bad (codes "version") place
@@ -96,25 +103,31 @@ gtp_fault_text (gtp.Kind place) = bad (codes "kind") place
 
 -- ---- NR-U frames
 
+-- a flag of a frame: 1 if it is set, else 0
 abbrev pub flag : Bool → List ℕ
 flag true = codes "1"
 flag false = codes "0"
 
+-- a range of lost numbers: its first number and its last
 abbrev pub range_text : Range → List ℕ
 range_text r = numbered (codes " ") r.from ++ numbered (codes "-") r.to
 
+-- the highest PDCP SN that a delivery status names; nothing for a status that names none (None)
 abbrev pub highest_text : Option ℕ → List ℕ
 highest_text None = []
 highest_text (Some sn) = numbered (codes " highest ") sn
 
+-- the ranges of lost numbers of a delivery status; nothing where it lists none
 abbrev pub lost_text : List Range → List ℕ
 lost_text [] = []
 lost_text (r ∷ rs) = codes " lost" ++ flat_map range_text (r ∷ rs)
 
+-- what a frame says: user data with its number in the tunnel and its two flags, or a delivery status
 abbrev pub frame_text : Frame → List ℕ
 frame_text (User n user repeat) = numbered (codes "user number ") n ++ codes " user " ++ flag user ++ codes " repeat " ++ flag repeat
 frame_text (Status highest lost) = codes "status" ++ highest_text highest ++ lost_text lost
 
+-- why octets are no frame: the first check that fails, and its place; want of memory has no text
 abbrev pub nru_fault_text : NruErr → List ℕ
 nru_fault_text (nru.Short place) = bad (codes "short") place
 nru_fault_text (nru.Kind place) = bad (codes "kind") place
@@ -124,6 +137,7 @@ nru_fault_text nru.Memory = []
 
 -- ---- any of these
 
+-- the text is the line for octets as this kind: what they say, or why they are none (for NR-U also an empty line)
 abbrev pub IsShown : Kind → List ℕ → List ℕ → Type 0
 IsShown Pdu12 octets text = text ≡ ended (pdu_text (decoded S12 octets))
 IsShown Pdu18 octets text = text ≡ ended (pdu_text (decoded S18 octets))

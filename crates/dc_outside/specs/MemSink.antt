@@ -2,6 +2,7 @@
 use Rattle.std.specs.Prelude.{ℕ, ◌+◌, ◌-◌, ◌++◌, List, length, Contains}
 use Rattle.dc_outside.specs.Faults.{counted}
 
+-- octets that were put out, in a room of a fixed size, and the writes that fail
 pub record Sink : Type 0 where
   pub octets : List ℕ  -- what was put out
   pub room : ℕ  -- how many octets fit in all

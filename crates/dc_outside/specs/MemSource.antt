@@ -2,6 +2,7 @@
 use Rattle.std.specs.Prelude.{ℕ, ◌+◌, List, drop, Contains}
 use Rattle.dc_outside.specs.Faults.{counted}
 
+-- octets to be given, and the reads that fail
 pub record Source : Type 0 where
   pub left : List ℕ  -- the octets that were not given yet
   pub fail : List ℕ  -- the numbers of the reads that fail, counted from 1

@@ -3,9 +3,11 @@ use Rattle.std.specs.Prelude.{◌≡◌, ◌≢◌, ℕ, ◌-◌, ◌==◌, Bool
 use Rattle.std.specs.List.{after_first, before_first}
 use Rattle.std.specs.Io.KnownBytes.{Consumes, prepend_known}
 
+-- the octet is LF, which ends a line
 abbrev pub is_line_feed : ℕ → Bool
 is_line_feed octet = octet == 10
 
+-- no LF is among the octets: they lie within one line
 abbrev pub HasNoLineFeed : List ℕ → Type 0
 HasNoLineFeed octets = EachIndex octets (λ k. slice_index octets k ≢ 10)
 

@@ -62,6 +62,7 @@ submit_answer next = if nat_lt next (window S12) then answer.Ok else answer.No F
 abbrev pub up_line : ℕ × List ℕ → Line
 up_line e = line.Note (note.Up T 1 Dl e.0 e.1)
 
+-- the lines for the SDUs that a received SDU lets go up, in ascending COUNT; none if it is old or stored already
 abbrev pub put_lines : Put → List Line
 put_lines (Stored run) = map up_line run
 put_lines _ = []
@@ -75,6 +76,7 @@ abbrev pub sdu_taken : Header → RxParts → List ℕ → ℕ → RxParts × Li
 sdu_taken h rx body count =
     if count == 2 ^ 32 - 1 then (rx, []) else (let done = put rx count (ciphered h count body) in (done.0, put_lines done.1))
 
+-- a received SDU, whose SN stands for this COUNT; where it stands for none (None), the SDU is discarded
 abbrev pub with_count : Header → RxParts → List ℕ → Option ℕ → RxParts × List Line
 with_count h rx body None = (rx, [])
 with_count h rx body (Some count) = sdu_taken h rx body count

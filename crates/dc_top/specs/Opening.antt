@@ -15,12 +15,15 @@ use Rattle.transcript.specs.Content.{mt_ctl, tm_ctl, mt_air}
 abbrev pub at_master : Shape
 at_master = record { at_second = false; legs = Mcg; dup = false }
 
+-- the first event: bearer 1 is established at the master, with SNs of 12 bits and from COUNT 0 on
 abbrev pub bearer_event : Event
 bearer_event = Bearer 1 S12 0 at_master 0 0
 
+-- the second event: the terminal is given the reconfiguration
 abbrev pub first_step : Event
 first_step = Step mt_ctl 0
 
+-- the third event: the master is given the terminal's answer to it
 abbrev pub second_step : Event
 second_step = Step tm_ctl 0
 

@@ -28,6 +28,7 @@ pub record WorldState : Type 0 where
   pub rx : RxParts  -- the terminal's receiving entity
   pub air : List Flight  -- what stands on mt.air
 
+-- the start of a run: no COUNT was used, the terminal has received nothing, and mt.air is empty
 abbrev pub new_world : Header → WorldState
 new_world h = record { header = h; next = 0; rx = record { n = S12; deliv = 0; stored = [] }; air = [] }
 
@@ -55,6 +56,7 @@ deliver_at w i (Some f) =
     let done = received w.header w.rx f in
     (record w { rx = done.0; air = remove w.air i }, (answer.Ok, done.1))
 
+-- a step on the air link to the terminal, for the flight at this place, from 0; it is refused where there is none
 abbrev pub deliver : WorldState → ℕ → WorldState × Outcome
 deliver w i = deliver_at w i (slice_get w.air i)
 
@@ -80,6 +82,7 @@ abbrev pub world_after : WorldState → List Event → WorldState
 world_after w [] = w
 world_after w (e ∷ es) = world_after (happen w e).0 es
 
+-- the entries that events make one after another, from this world on
 abbrev pub entries_from : WorldState → List Event → List Entry
 entries_from w [] = []
 entries_from w (e ∷ es) = entry_of w e ∷ entries_from (happen w e).0 es

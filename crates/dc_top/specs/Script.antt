@@ -24,6 +24,7 @@ IsJudged May line found = MatchOption found ((e : Event) → May e → line ≢ 
 abbrev pub IsJudgedHeader : List ℕ → Option Header → Type 0
 IsJudgedHeader line found = MatchOption found ((h : Header) → IsHeader h → line ≢ header_text h) (λ h. IsHeader h × (line ≡ header_text h))
 
+-- what digits were found to be: those of no root key (None), or of the root key of this header with the algorithm
 abbrev pub IsJudgedRoot : Alg → List ℕ → Option Header → Type 0
 IsJudgedRoot alg digits found =
     MatchOption found ((h : Header) → IsHeader h → digits ≢ encode_lower h.root) (λ h. IsHeader h × (h.alg ≡ alg) × (digits ≡ encode_lower h.root))

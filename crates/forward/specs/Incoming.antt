@@ -11,6 +11,7 @@ pub record Incoming : Type 0 where
   pub sdus : FinMap nat_cmp Sdu
   pub total : Option ℕ
 
+-- the receiving end before anything came out: no SDUs, and the total not known
 abbrev pub nothing_came : Incoming
 nothing_came = record { sdus = empty; total = None }
 

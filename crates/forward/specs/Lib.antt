@@ -1,3 +1,4 @@
+-- the definitions that contracts cite
 pub mod Load
 pub mod Outgoing
 pub mod Incoming

@@ -18,6 +18,7 @@ pub data Load : Type 0 where
   Total : (total : ℕ) → Load
   Nothing : Load
 
+-- the PDCP SN that a PDU number carries, short or long
 abbrev pub sn_of : PduNumber → ℕ
 sn_of (Short sn) = sn
 sn_of (Long sn) = sn

@@ -39,6 +39,7 @@ abbrev pub total_packet : ℕ → ℕ → Content
 total_packet teid total =
     record { kind = GPdu; teid = teid; container = Some (written (User total false false)); number = None; body = [] }
 
+-- the end marker of the tunnel, after which it is given nothing more
 abbrev pub end_marker : ℕ → Content
 end_marker teid = record { kind = EndMarker; teid = teid; container = None; number = None; body = [] }
 

@@ -6,6 +6,7 @@ use Rattle.gtpu.specs.declared.packet.GtpKind.TheVariants.{GPdu, EndMarker, Echo
 use Rattle.gtpu.specs.declared.packet.Packet.{Packet}
 use Rattle.gtpu.specs.declared.packet.PduNumber.{PduNumber}
 
+-- a packet: message type, TEID, NR RAN container and PDCP PDU number (each None if absent), and what follows the header
 pub record Content : Type 0 where
   pub kind : GtpKind
   pub teid : ℕ
@@ -13,6 +14,7 @@ pub record Content : Type 0 where
   pub number : Option PduNumber
   pub body : List ℕ
 
+-- what a packet says that was read
 abbrev pub view : Packet → Content
 view p =
     record { kind = p.kind; teid = p.teid; container = option_copied p.container; number = p.number; body = p.body.now }

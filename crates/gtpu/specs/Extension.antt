@@ -51,9 +51,11 @@ number_of type content =
     else if type == 0x82 then Some (Long (long_number content))
     else None
 
+-- the contents of the NR RAN containers among extension headers, in order
 abbrev pub containers : List Extension → List (List ℕ)
 containers xs = filter_map (λ x. container_of x.type x.content) xs
 
+-- the PDCP PDU numbers among extension headers, in order
 abbrev pub numbers : List Extension → List PduNumber
 numbers xs = filter_map (λ x. number_of x.type x.content) xs
 

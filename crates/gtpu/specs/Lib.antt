@@ -1,3 +1,4 @@
+-- the definitions that contracts cite
 pub mod Content
 pub mod Extension
 pub mod Grammar

@@ -11,6 +11,7 @@ use Rattle.gtpu.specs.Extension.{Extension, octets_of}
 abbrev pub extension : ℕ → List ℕ → Extension
 extension type content = record { type = type; units = (length content + 2) / 4; content = content }
 
+-- the extension header of an NR RAN container; no header for a packet without one (None)
 abbrev pub container_header : Option (List ℕ) → List Extension
 container_header None = []
 container_header (Some content) = extension 0x84 content ∷ []
@@ -21,6 +22,7 @@ number_header None = []
 number_header (Some (Short n)) = extension 0xC0 (to_be_bytes w16 n) ∷ []
 number_header (Some (Long n)) = extension 0x82 (drop 1 (to_be_bytes w32 n) ++ 0 ∷ 0 ∷ 0 ∷ []) ∷ []
 
+-- the packet has extension headers, for a container, a number or both
 abbrev pub is_extended : Content → Bool
 is_extended p = is_some p.container || is_some p.number
 

@@ -44,12 +44,14 @@ is_noted roots root = list_any (λ noted. bytes_eq noted root) roots
 abbrev pub noting : Book → List ℕ → Book
 noting book root = record book { roots = book.roots ++ root ∷ []; drawn = book.drawn ++ 0 ∷ [] }
 
+-- both sides are the master's, or both are K_SN with the same SN Counter
 abbrev pub is_same_side : Side → Side → Bool
 is_same_side Master Master = true
 is_same_side Master (Second d) = false
 is_same_side (Second c) Master = false
 is_same_side (Second c) (Second d) = c == d
 
+-- both names are of one key: the same root by its number, and the same side
 abbrev pub is_same_key : KeyName → KeyName → Bool
 is_same_key a b = (a.root == b.root) && is_same_side a.side b.side
 
@@ -65,6 +67,7 @@ spends id est key claim = is_for id key claim && not (claim.est == est)
 abbrev pub is_spent : List Claim → ℕ → ℕ → KeyName → Bool
 is_spent claims id est key = list_any (spends id est key) claims
 
+-- both claims are of the same identity and establishment and for the same key
 abbrev pub is_same_claim : Claim → Claim → Bool
 is_same_claim new claim = is_for new.id new.key claim && (claim.est == new.est)
 

@@ -1,3 +1,4 @@
+-- the definitions that contracts cite
 pub mod Hmac
 pub mod Derived
 pub mod KeyNames

@@ -1,3 +1,4 @@
+-- the definitions that contracts cite
 pub mod Cipher
 pub mod Combined
 pub mod Field

@@ -14,6 +14,7 @@ number n = drop 1 (to_be_bytes w32 n)
 abbrev pub range : Range → List ℕ
 range r = number r.from ++ number r.to
 
+-- the highest sequence number of a delivery status, in three octets; no octets where it has none (None)
 abbrev pub optional : Option ℕ → List ℕ
 optional None = []
 optional (Some n) = number n
@@ -60,6 +61,7 @@ abbrev pub IsWritable : Frame → Type 0
 IsWritable (User n user repeat) = n < 2 ^ 24
 IsWritable (Status highest lost) = IfSome highest (λ h. h < 2 ^ 18) × (length lost ≤ 168) × AreRanges lost
 
+-- a flag as a bit of octet 0: 1 if it is set
 abbrev pub flag : Bool → ℕ
 flag b = if b then 1 else 0
 

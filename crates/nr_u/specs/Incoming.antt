@@ -67,6 +67,7 @@ settled i = take_while (λ a. not (contains a.0 i.unacked) && is_below (slice_ge
 abbrev pub is_first : Arrival → Bool
 is_first a = is_some a.sn && not a.repeat
 
+-- the last of a list; None if the list is empty
 abbrev pub last : {X : Type 0} → List X → Option X
 last [] = None
 last (x ∷ []) = Some x

@@ -45,6 +45,7 @@ abbrev pub from_or : ℕ → Option Range → ℕ
 from_or past None = past
 from_or past (Some gap) = gap.from
 
+-- what is kept fits the PDUs that came: those not acked, data PDUs without repeats, gaps, one past the highest number
 pub record IsKept (came : List Numbered) (unacked : List ℕ) (firsts : List Numbered) (missing : List Range) (next : ℕ) : Type 0 where
   pub ascends : Ascends 0 came
   pub small : next_after 0 came ≤ 2 ^ 24

@@ -1,3 +1,4 @@
+-- the definitions that contracts cite
 pub mod Frames
 pub mod Faults
 pub mod Incoming

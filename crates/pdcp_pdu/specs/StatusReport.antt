@@ -28,6 +28,7 @@ pub record NamesReceived (fmc : ℕ) (set : ℕ → Bool) (octets : List ℕ) : 
 abbrev pub sent_bits : ℕ → List ℕ → List ℕ
 sent_bits fmc received = bitmap (is_among received) (fmc + 1) (min 8995 (bitmap_len fmc received))
 
+-- the octets of the report that is sent: its header, with R bits 0, and that bitmap
 unfoldable pub report_pdu : ℕ → List ℕ → List ℕ
 report_pdu fmc received = report_header 0 fmc ++ sent_bits fmc received
 

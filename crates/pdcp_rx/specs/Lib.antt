@@ -1,3 +1,4 @@
+-- the definitions that contracts cite
 pub mod Entries
 pub mod Run
 pub mod Receiver

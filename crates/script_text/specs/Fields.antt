@@ -6,6 +6,7 @@ use Rattle.script_text.specs.declared.fields.Field.{Field}
 use Rattle.script_text.specs.declared.fields.Field.TheVariants as field
 use Rattle.transcript.specs.Words.{or_dash, octets_or_dash, dir_word, node_word, alg_word, sn_word, link_word, shape_word, key_word, want_word, state_word, refusal_word, cause_word}
 
+-- the octets of one field of a line; a dash stands for a node or a tag that is missing, and for a bitmap of no octets
 abbrev pub field_text : Field → List ℕ
 field_text (field.Text word) = word.now
 field_text (field.Number n) = decimal n

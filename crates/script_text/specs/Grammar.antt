@@ -19,6 +19,7 @@ use Rattle.dc_base.specs.declared.nodes.Shape.{Shape}
 use Rattle.script_text.specs.declared.spelling.Command.{Command}
 use Rattle.script_text.specs.declared.spelling.Command.TheVariants as command
 
+-- the first word of a line, which tells what the rest of it is
 abbrev pub command_word : Command → List ℕ
 command_word command.Bearer = codes "bearer"
 command_word command.Shape = codes "shape"
@@ -110,15 +111,19 @@ Allows Wanted f = (w : Want) × (f ≡ want_word w)
 Allows Linked f = (l : LinkId) × IsTrue (is_link l) × (f ≡ link_word l)
 Allows Cipher f = (a : Alg) × (f ≡ alg_word a)
 
+-- the identity of a bearer: 1 to 32
 abbrev pub identity : Kind
 identity = Number 1 32
 
+-- a number of 32 bits: a threshold in octets, or a place on a link, from 0
 abbrev pub word_32 : Kind
 word_32 = Number 0 4294967295
 
+-- a root key: 32 octets
 abbrev pub root : Kind
 root = Octets 32 32
 
+-- the payload of a submission: 1 to 9000 octets
 abbrev pub payload : Kind
 payload = Octets 1 9000
 
@@ -162,6 +167,7 @@ IsFault [] at (f ∷ fs) c = c ≡ at + 1
 IsFault (k ∷ ks) at [] c = c ≡ at
 IsFault (k ∷ ks) at (f ∷ fs) c = ((Allows k f → ⊥) × (c ≡ at + 1)) ⊎ (Allows k f × IsFault ks (at + length f + 1) fs c)
 
+-- the octet is a space, which ends a field
 abbrev pub is_space : ℕ → Bool
 is_space o = o == 32
 
@@ -169,6 +175,7 @@ is_space o = o == 32
 abbrev pub fields : List ℕ → List (List ℕ)
 fields line = slice_split is_space line
 
+-- c is the column of the first bad or missing one of a line's fields: 1, where the first is no command's word
 abbrev pub IsFaultOf : List (List ℕ) → ℕ → Type 0
 IsFaultOf [] c = ⊥
 IsFaultOf (word ∷ rest) c =

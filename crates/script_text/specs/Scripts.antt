@@ -11,12 +11,15 @@ use Rattle.script_text.specs.Grammar.{is_link, is_shape, is_secondary}
 use Rattle.script_text.specs.declared.scripted.Scripted.{Scripted}
 use Rattle.script_text.specs.declared.scripted.Scripted.TheVariants.{One, Drain}
 
+-- an identity that a bearer may have: 1 to 32
 abbrev pub IsIdentity : ℕ → Type 0
 IsIdentity id = (1 ≤ id) × (id ≤ 32)
 
+-- octets that a root key may have: 32 of them
 abbrev pub IsRoot : List ℕ → Type 0
 IsRoot octets = IsBytes octets × (length octets ≡ 32)
 
+-- octets that a submission may have: 1 to 9000 of them
 abbrev pub IsPayload : List ℕ → Type 0
 IsPayload octets = IsBytes octets × (1 ≤ length octets) × (length octets ≤ 9000)
 

@@ -16,6 +16,7 @@ pub record LegState : Type 0 where
 abbrev pub is_open : Pdu → Bool
 is_open p = not p.repeat && not p.acked && not p.settled
 
+-- what a PDU counts in the volume of its leg: its octets while they are outstanding, else 0
 abbrev pub open_octets : Pdu → ℕ
 open_octets p = if is_open p then p.octets else 0
 
@@ -23,6 +24,7 @@ open_octets p = if is_open p then p.octets else 0
 abbrev pub volume : List Pdu → ℕ
 volume pdus = sum_by open_octets pdus
 
+-- the PDU's COUNT is c; a control PDU has none (None)
 abbrev pub is_count : ℕ → Option ℕ → Bool
 is_count c None = false
 is_count c (Some d) = d == c
@@ -41,9 +43,11 @@ abbrev pub count_unless_acked : Option Pdu → Option ℕ
 count_unless_acked None = None
 count_unless_acked (Some p) = if p.acked then None else p.count
 
+-- the COUNT that the ack of this number confirms; None for no such PDU, one acked before, or a control PDU
 abbrev pub acked_count : List Pdu → ℕ → Option ℕ
 acked_count pdus num = count_unless_acked (slice_get pdus num)
 
+-- the PDUs after the ack of the one that has this number; where none has it (None), they are as before
 abbrev pub set_acked : List Pdu → ℕ → Option Pdu → List Pdu
 set_acked pdus num None = pdus
 set_acked pdus num (Some p) = slice_set pdus num (record p { acked = true })
@@ -52,6 +56,7 @@ set_acked pdus num (Some p) = slice_set pdus num (record p { acked = true })
 abbrev pub with_ack : LegState → ℕ → LegState
 with_ack leg num = record leg { pdus = set_acked leg.pdus num (slice_get leg.pdus num) }
 
+-- the PDU's COUNT is from first up to below end; that of a control PDU (None) is not
 abbrev pub is_within : ℕ → ℕ → Option ℕ → Bool
 is_within first end None = false
 is_within first end (Some c) = nat_le first c && nat_lt c end
@@ -60,6 +65,7 @@ is_within first end (Some c) = nat_le first c && nat_lt c end
 abbrev pub is_settled_by : ℕ → ℕ → Pdu → Bool
 is_settled_by first end p = is_open p && is_within first end p.count
 
+-- the PDU after the COUNTs from first up to below end are confirmed: outstanding no more, if its COUNT is one of them
 abbrev pub settle : ℕ → ℕ → Pdu → Pdu
 settle first end p = if is_settled_by first end p then record p { settled = true } else p
 
@@ -75,10 +81,12 @@ pub record LegsState : Type 0 where
   pub mcg : LegState
   pub scg : LegState
 
+-- the leg over this cell group
 abbrev pub leg_at : LegsState → Cell → LegState
 leg_at legs Mcg = legs.mcg
 leg_at legs Scg = legs.scg
 
+-- the legs with this one over the cell group, in place of the leg there
 abbrev pub with_leg : LegsState → Cell → LegState → LegsState
 with_leg legs Mcg leg = record legs { mcg = leg }
 with_leg legs Scg leg = record legs { scg = leg }
@@ -87,6 +95,7 @@ with_leg legs Scg leg = record legs { scg = leg }
 abbrev pub begun : LegState → LegState
 begun leg = record leg { before = length leg.pdus }
 
+-- the next send begins on both legs
 abbrev pub with_send : LegsState → LegsState
 with_send legs = record legs { mcg = begun legs.mcg; scg = begun legs.scg }
 

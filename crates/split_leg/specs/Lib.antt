@@ -1,3 +1,4 @@
+-- the definitions that contracts cite
 pub mod Routing
 pub mod Stored
 pub mod Legs

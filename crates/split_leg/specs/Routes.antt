@@ -11,6 +11,7 @@ use Rattle.split_leg.specs.declared.legs.Route.TheVariants.{None, One, Both}
 use Rattle.split_leg.specs.Legs.{LegsState, leg_at, volume}
 use Rattle.split_leg.specs.Routing.{Margins, chosen, margins_at}
 
+-- a bearer of these legs has one over this cell group
 abbrev pub has_leg : LegSet → Cell → Bool
 has_leg only_mcg Mcg = true
 has_leg only_mcg Scg = false
@@ -22,11 +23,13 @@ has_leg (Split primary) cell = true
 abbrev pub is_live : LegsState → Cell → Bool
 is_live legs cell = has_leg legs.shape.legs cell && not (leg_at legs cell).failed
 
+-- the primary leg of a split bearer, and else the one leg that there is
 abbrev pub primary_of : LegSet → Cell
 primary_of only_mcg = Mcg
 primary_of only_scg = Scg
 primary_of (Split primary) = primary
 
+-- the cell group of the leg that a policy chooses
 abbrev pub cell_of : Choice → Cell
 cell_of choose_mcg = Mcg
 cell_of choose_scg = Scg

@@ -21,6 +21,7 @@ abbrev pub chosen_volume : Choice → ℕ → ℕ → ℕ
 chosen_volume Mcg mcg scg = mcg
 chosen_volume Scg mcg scg = scg
 
+-- the volume of the leg that is not chosen, in octets
 abbrev pub other_volume : Choice → ℕ → ℕ → ℕ
 other_volume Mcg mcg scg = scg
 other_volume Scg mcg scg = mcg

@@ -26,6 +26,7 @@ pub record Established : Type 0 where
   pub n : SnLen
   pub first : ℕ  -- the COUNT of its first submission in both directions
 
+-- both directions are uplink, or both are downlink
 abbrev pub is_same_dir : Dir → Dir → Bool
 is_same_dir Ul Ul = true
 is_same_dir Dl Dl = true
@@ -36,6 +37,7 @@ abbrev pub is_draw_of : Event → Answer → Bool
 is_draw_of (Bearer id n first shape threshold policy) Ok = true
 is_draw_of _ _ = false
 
+-- whether an entry draws the next generation: it is the setup of a bearer, and was answered ok
 abbrev pub is_draw : Entry → Bool
 is_draw e = is_draw_of e.event e.answer
 
@@ -53,6 +55,7 @@ plan_of g (Bearer id n first shape threshold policy) Ok =
     record { g = g; sec = None; items = Set id n first shape threshold policy (master_key 0) None ∷ [] } ∷ []
 plan_of g _ _ = []
 
+-- the plan that an entry draws, under the next generation after those drawn before; none if it draws no generation
 abbrev pub plan_drawn : List Entry → Entry → List Plan
 plan_drawn before e = plan_of (generation before + 1) e.event e.answer
 
@@ -104,6 +107,7 @@ abbrev pub submission_of : Established → Dir → Bool → Event → Answer →
 submission_of b d current (Submit id dir sdu) Ok = if (id == b.id) && is_same_dir dir d && current then sdu ∷ [] else []
 submission_of b d current _ _ = []
 
+-- the payload that an entry submits to the bearer; none if it is refused, or a later bearer has the identity
 abbrev pub submission : Established → Dir → List Entry → Entry → List (List ℕ)
 submission b d before e = submission_of b d (is_latest b before) e.event e.answer
 
@@ -116,6 +120,7 @@ abbrev pub up_of : Established → Dir → Line → List (ℕ × List ℕ)
 up_of b d (line.Note (Up node id dir count sdu)) = if (id == b.id) && is_same_dir dir d then (count, sdu) ∷ [] else []
 up_of b d _ = []
 
+-- what an entry hands up for the bearer, each payload with its COUNT; none once a later bearer has the identity
 abbrev pub ups : Established → Dir → List Entry → Entry → List (ℕ × List ℕ)
 ups b d before e = if is_latest b before then flat_map (up_of b d) e.lines else []
 
@@ -133,6 +138,7 @@ abbrev pub freed_of : Established → Dir → Line → List ℕ
 freed_of b d (line.Note (Freed id dir count)) = if (id == b.id) && is_same_dir dir d then count ∷ [] else []
 freed_of b d _ = []
 
+-- the COUNTs to which an entry moves the submitter's window; none once a later bearer has the identity
 abbrev pub frees : Established → Dir → List Entry → Entry → List ℕ
 frees b d before e = if is_latest b before then flat_map (freed_of b d) e.lines else []
 

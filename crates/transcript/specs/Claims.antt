@@ -52,6 +52,7 @@ pub record ProtectsSubmission (h : Header) (t : List Entry) (b : Established) (d
   pub keyed : key_in g b.id (plans t) ≡ Some key
   pub spelled : pdu ≡ protected_pdu h t b d key count sdu
 
+-- a PDU on the air protects a submission of the bearer; of any other flight nothing is claimed
 abbrev pub IsProtected : Header → List Entry → Established → Dir → LinkId × Flight → Type 0
 IsProtected h t b d (l, flight.Air id g num tag pdu) = ProtectsSubmission h t b d g tag pdu
 IsProtected h t b d _ = ⊤
@@ -66,6 +67,7 @@ abbrev pub receiver : Dir → Node
 receiver Dl = T
 receiver Ul = M
 
+-- the flight is a PDU on the air, and is tagged with this COUNT
 abbrev pub HasTag : ℕ → Flight → Type 0
 HasTag count (flight.Air id g num tag pdu) = tag ≡ Some count
 HasTag count _ = ⊥
@@ -143,6 +145,7 @@ pub record Completes (before : List Entry) (e : Entry) (l : LinkId) (g : ℕ) : 
   pub same : plan.g ≡ g
   pub to_master : l ≡ tm_ctl
 
+-- the reason for which a record is sent; only a reconfiguration and its answer can have one
 abbrev pub IsReasonForRecord : Header → List Entry → Entry → LinkId → Rec → Type 0
 IsReasonForRecord h before e l (Reconf plan root) = Reconfigures h before e l plan root
 IsReasonForRecord h before e l (Rcomp g) = Completes before e l g

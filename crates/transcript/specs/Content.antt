@@ -25,15 +25,18 @@ node_number M = 1
 node_number A = 2
 node_number B = 3
 
+-- the number of a class of links: no two classes have the same
 abbrev pub class_number : Class → ℕ
 class_number Ctl = 0
 class_number Feed = 1
 class_number Air = 2
 class_number Tun = 3
 
+-- the number of a link, from its two ends and its class: no two links have the same
 abbrev pub link_number : LinkId → ℕ
 link_number l = node_number l.from + 4 * node_number l.to + 16 * class_number l.class
 
+-- both links have the same sender, receiver and class
 abbrev pub is_same_link : LinkId → LinkId → Bool
 is_same_link l k = link_number l == link_number k
 
@@ -41,12 +44,15 @@ is_same_link l k = link_number l == link_number k
 abbrev pub mt_ctl : LinkId
 mt_ctl = record { from = M; to = T; class = Ctl }
 
+-- control from the terminal to the master
 abbrev pub tm_ctl : LinkId
 tm_ctl = record { from = T; to = M; class = Ctl }
 
+-- the air link from the master to the terminal
 abbrev pub mt_air : LinkId
 mt_air = record { from = M; to = T; class = Air }
 
+-- the air link from the terminal to the master
 abbrev pub tm_air : LinkId
 tm_air = record { from = T; to = M; class = Air }
 
@@ -59,6 +65,7 @@ abbrev pub direction_from : Node → Dir
 direction_from T = Ul
 direction_from _ = Dl
 
+-- the direction of what a link carries, which its sender decides
 abbrev pub direction : LinkId → Dir
 direction l = direction_from l.from
 
@@ -66,6 +73,7 @@ direction l = direction_from l.from
 abbrev pub on_link : LinkId → LinkId × Flight → List Flight
 on_link l s = if is_same_link l s.0 then s.1 ∷ [] else []
 
+-- the flights that lines put on this link, in order
 abbrev pub put_on : LinkId → List Line → List Flight
 put_on l lines = flat_map (on_link l) (sends lines)
 
@@ -76,6 +84,7 @@ place_taken (Step l i) (No Aged) = Some (l, i)
 place_taken (Lose l i) Ok = Some (l, i)
 place_taken _ _ = None
 
+-- the flights left on a link after one was taken from this place; all of them if none was (None), or on another link
 abbrev pub without_taken : LinkId → Option (LinkId × ℕ) → List Flight → List Flight
 without_taken l None flights = flights
 without_taken l (Some place) flights = if is_same_link l place.0 then remove flights place.1 else flights
@@ -93,5 +102,6 @@ abbrev pub given_at : List Entry → Event → Answer → Option (LinkId × Flig
 given_at before (Step l i) Ok = option_map (λ f. (l, f)) (slice_get (content l before) i)
 given_at before _ _ = None
 
+-- the flight that an entry gives to a receiver, with its link; None unless it is a step that is answered ok
 abbrev pub given : List Entry → Entry → Option (LinkId × Flight)
 given before e = given_at before e.event e.answer

@@ -123,6 +123,7 @@ note_text (note.Refused node word) = spaced (codes "refused" ∷ node_word node 
 note_text note.Done = codes "done"
 note_text note.Rejected = codes "rejected"
 
+-- the answer to an event: ok, or no and why
 abbrev pub answer_text : Answer → List ℕ
 answer_text Ok = codes "ok"
 answer_text (No why) = spaced (codes "no" ∷ refusal_word why ∷ [])
@@ -134,6 +135,7 @@ line_text (line.Answer a) = codes "= " ++ answer_text a
 line_text (line.Note n) = codes "- " ++ note_text n
 line_text (line.Send l f) = codes "- send " ++ spaced (link_word l ∷ flight_text f ∷ [])
 
+-- what leads an event's line in a transcript; the other lines have their marks in their own text
 abbrev pub mark : Line → List ℕ
 mark (line.Event e) = codes "> "
 mark _ = []

@@ -29,6 +29,7 @@ abbrev pub sends_of : Line → List (LinkId × Flight)
 sends_of (line.Send l f) = (l, f) ∷ []
 sends_of _ = []
 
+-- the flights that lines put on links, each with its link, in order
 abbrev pub sends : List Line → List (LinkId × Flight)
 sends lines = flat_map sends_of lines
 
@@ -37,6 +38,7 @@ abbrev pub gathered_from : {A : Type 0} → (List Entry → Entry → List A) �
 gathered_from f before [] = []
 gathered_from f before (e ∷ es) = f before e ++ gathered_from f (before ++ e ∷ []) es
 
+-- what the entries of a whole transcript give, the oldest first
 abbrev pub gathered : {A : Type 0} → (List Entry → Entry → List A) → List Entry → List A
 gathered f t = gathered_from f [] t
 
@@ -45,6 +47,7 @@ abbrev pub EachFrom : (List Entry → Entry → Type 0) → List Entry → List 
 EachFrom P before [] = ⊤
 EachFrom P before (e ∷ es) = P before e × EachFrom P (before ++ e ∷ []) es
 
+-- a claim holds of each entry of a whole transcript
 abbrev pub Each : (List Entry → Entry → Type 0) → List Entry → Type 0
 Each P t = EachFrom P [] t
 
@@ -53,5 +56,6 @@ abbrev pub SomeFrom : (List Entry → Entry → Type 0) → List Entry → List 
 SomeFrom P before [] = ⊥
 SomeFrom P before (e ∷ es) = P before e ⊎ SomeFrom P (before ++ e ∷ []) es
 
+-- a claim holds of some entry of a whole transcript
 abbrev pub SomeEntry : (List Entry → Entry → Type 0) → List Entry → Type 0
 SomeEntry P t = SomeFrom P [] t

@@ -43,24 +43,29 @@ abbrev pub octets_or_dash : List ℕ → List ℕ
 octets_or_dash [] = codes "-"
 octets_or_dash (o ∷ os) = encode_lower (o ∷ os)
 
+-- a direction: uplink or downlink
 abbrev pub dir_word : Dir → List ℕ
 dir_word Ul = codes "ul"
 dir_word Dl = codes "dl"
 
+-- a node: the terminal, the master, or one of the two secondary nodes
 abbrev pub node_word : Node → List ℕ
 node_word T = codes "t"
 node_word M = codes "m"
 node_word A = codes "a"
 node_word B = codes "b"
 
+-- a ciphering algorithm: none, or 128-NEA2
 abbrev pub alg_word : Alg → List ℕ
 alg_word Nea0 = codes "nea0"
 alg_word Nea2 = codes "nea2"
 
+-- how long sequence numbers are, in bits
 abbrev pub sn_word : SnLen → List ℕ
 sn_word S12 = codes "12"
 sn_word S18 = codes "18"
 
+-- the class of a link: control, the core's feed, an air link, or a tunnel
 abbrev pub class_word : Class → List ℕ
 class_word Ctl = codes "ctl"
 class_word Feed = codes "feed"
@@ -71,10 +76,12 @@ class_word Tun = codes "tun"
 abbrev pub link_word : LinkId → List ℕ
 link_word l = node_word l.from ++ node_word l.to ++ codes "." ++ class_word l.class
 
+-- a cell group: the master's or the secondary's
 abbrev pub cell_word : Cell → List ℕ
 cell_word cell.Mcg = codes "m"
 cell_word cell.Scg = codes "s"
 
+-- the legs of a bearer: the master's, the secondary's, or x for both, and then the primary one
 abbrev pub legs_word : LegSet → List ℕ
 legs_word Mcg = codes "m"
 legs_word Scg = codes "s"
@@ -84,6 +91,7 @@ legs_word (Split primary) = codes "x" ++ cell_word primary
 abbrev pub shape_word : Shape → List ℕ
 shape_word s = (if s.at_second then codes "s" else codes "m") ++ legs_word s.legs ++ (if s.dup then codes "d" else [])
 
+-- a key of the root of this number: the master's, or K_SN with an SN Counter
 abbrev pub side_word : ℕ → Side → List ℕ
 side_word root Master = codes "m" ++ decimal root
 side_word root (Second counter) = codes "s" ++ decimal root ++ codes "." ++ decimal counter
@@ -92,15 +100,18 @@ side_word root (Second counter) = codes "s" ++ decimal root ++ codes "." ++ deci
 abbrev pub key_word : KeyName → List ℕ
 key_word k = side_word k.root k.side
 
+-- what a secondary node asks the master for: a new key, a change to the other secondary node, or its release
 abbrev pub want_word : Want → List ℕ
 want_word Rekey = codes "rekey"
 want_word Change = codes "change"
 want_word Release = codes "release"
 
+-- whether a secondary node is to reject requests: on, or off again
 abbrev pub state_word : Bool → List ℕ
 state_word true = codes "on"
 state_word false = codes "off"
 
+-- why an event is refused
 abbrev pub refusal_word : Refusal → List ℕ
 refusal_word refusal.NoBearer = codes "nobearer"
 refusal_word refusal.BearerThere = codes "bearerthere"
@@ -119,6 +130,7 @@ refusal_word refusal.Full = codes "full"
 refusal_word refusal.Exhausted = codes "exhausted"
 refusal_word refusal.NoPolicy = codes "nopolicy"
 
+-- why a request of a secondary node is refused (TS 38.423, 8.3)
 abbrev pub cause_word : Word → List ℕ
 cause_word word.Busy = codes "busy"
 cause_word word.NoSecondary = codes "nosecondary"
