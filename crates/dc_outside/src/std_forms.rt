@@ -16,7 +16,9 @@ pub struct StdSource<I> {
 
 impl<I> StdSource<I> {
     /// A source over this reader, with no fault yet.
-    pub fn new(inner: I) -> StdSource<I> {
+    pub fn new(inner: I) -> StdSource<I>
+        ensures { result.faults ≡ 0 }
+    {
         StdSource { inner, faults: 0 }
     }
 }
@@ -51,7 +53,9 @@ pub struct StdSink<I> {
 
 impl<I> StdSink<I> {
     /// A sink over this writer, with no fault yet.
-    pub fn new(inner: I) -> StdSink<I> {
+    pub fn new(inner: I) -> StdSink<I>
+        ensures { result.faults ≡ 0 }
+    {
         StdSink { inner, faults: 0 }
     }
 }
