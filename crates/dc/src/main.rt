@@ -19,6 +19,7 @@ fn number(status: Status) -> u8 {
         Status::WriteFault => 4,
         Status::Memory => 5,
         Status::TooLong => 6,
+        Status::NotBuilt => 7,
     }
 }
 

@@ -70,4 +70,6 @@ pub enum Status {
     Memory,
     /// A limit was passed.
     TooLong,
+    /// The next event is one that the program does not take yet.
+    NotBuilt,
 }

@@ -30,6 +30,7 @@ HasEnded input status.Usage old new = ⊥
 HasEnded input status.ReadFault old new = Appends old new []
 HasEnded input status.Memory old new = Appends old new []
 HasEnded input status.TooLong old new = Appends old new []
+HasEnded input status.NotBuilt old new = ⊥
 
 -- and before and after another form
 abbrev pub HasWritten : List (List ℕ) → Status → Option (List ℕ) → Option (List ℕ) → Type 0
