@@ -1,10 +1,10 @@
 -- SDUs under ascending COUNTs: their least, one more, some fewer.
-use Rattle.std.proofs.Common.{ℕ, suc, ◌≡◌, ◌+◌, ◌<◌, ◌≤◌, Bool, List, [], ◌∷◌, ◌++◌, length, subst, arith, inl, inr}
+use Rattle.std.proofs.Common.{ℕ, suc, ◌≡◌, ◌+◌, ◌<◌, ◌≤◌, Bool, List, [], ◌∷◌, ◌++◌, length, ◌==◌, not, false, refl, ap, subst, arith, inl, inr}
 use Rattle.std.specs.List.{filter, enumerate_from}
-use Rattle.std.proofs.lemmas.Bool.{cases_Bool}
+use Rattle.std.proofs.lemmas.Bool.{cases_Bool, ne_eqb}
 use Rattle.dc_base.specs.declared.numbers.SnLen.{SnLen}
 use Rattle.dc_base.specs.Count.{window}
-use Rattle.pdcp_tx.specs.Sender.{Entry, least, Rises, IsAscending, InWindow}
+use Rattle.pdcp_tx.specs.Sender.{Entry, least, Rises, InWindow}
 
 pub Rises-weaker : (low from next : ℕ) (es : List Entry) → low ≤ from → Rises from next es → Rises low next es
 Rises-weaker low from next [] le up = omega arith
@@ -30,7 +30,7 @@ Rises-filter test from next (e ∷ es) up =
       | inr no' ↦ rw no' (Rises-weaker from (e.0 + 1) next (filter test es) (omega (arith, up.0)) (Rises-filter test (e.0 + 1) next es up.1))
     ]
 
-enumerated : (from next : ℕ) (sdus : List (List ℕ)) → from ≤ next → Rises from (next + length sdus) (enumerate_from next sdus)
+pub enumerated : (from next : ℕ) (sdus : List (List ℕ)) → from ≤ next → Rises from (next + length sdus) (enumerate_from next sdus)
 enumerated from next [] le = omega arith
 enumerated from next (sdu ∷ sdus) le =
     let end : next + 1 + length sdus ≡ next + suc (length sdus) = omega arith in
@@ -41,10 +41,16 @@ pub Rises-enumerated : (from next : ℕ) (es : List Entry) (sdus : List (List �
 Rises-enumerated from next [] sdus up = enumerated from next sdus up
 Rises-enumerated from next (e ∷ es) sdus up = (up.0, Rises-enumerated (e.0 + 1) next es sdus up.1)
 
--- ---- in the window
+-- ---- confirmed
 
-pub in_window-ascending : (n : SnLen) (next : ℕ) (es : List Entry) → InWindow n next es → IsAscending next es
-in_window-ascending n next es w = record { from = w.from; rises = w.rises }
+-- none of these has a COUNT below the first of them
+pub without_past : (count from next : ℕ) (es : List Entry) → Rises from next es → count < from → filter (λ e. not (e.0 == count)) es ≡ es
+without_past count from next [] up past = refl
+without_past count from next (e ∷ es) up past =
+    let apart : e.0 == count ≡ false = ne_eqb _ _ (λ same. omega (arith, up.0)) in
+    rw apart (ap (λ (xs : List Entry). e ∷ xs) (without_past count (e.0 + 1) next es up.1 (omega (arith, up.0))))
+
+-- ---- in the window
 
 pub in_window-none : (n : SnLen) (next : ℕ) → InWindow n next []
 in_window-none n next = record { from = next; near = omega arith; rises = omega arith }
@@ -56,10 +62,6 @@ pub in_window-enumerated : (n : SnLen) (next : ℕ) (es : List Entry) (sdus : Li
     → InWindow n (next + length sdus) (es ++ enumerate_from next sdus)
 in_window-enumerated n next es sdus w room =
     record { from = least next es; near = room; rises = Rises-enumerated (least next es) next es sdus (Rises-least w.from next es w.rises) }
-
-pub in_window-taken : (n : SnLen) (next : ℕ) (es : List Entry) (sdu : List ℕ) → InWindow n next es → next < least next es + window n
-    → InWindow n (next + 1) (es ++ (next, sdu) ∷ [])
-in_window-taken n next es sdu w room = in_window-enumerated n next es (sdu ∷ []) w (omega arith)
 
 -- the window is never passed
 pub in_window-near : (n : SnLen) (next : ℕ) (es : List Entry) → InWindow n next es → (next ≤ least next es + window n) × (least next es ≤ next)

@@ -6,8 +6,7 @@ use Rattle.dc_base.specs.Count.{window}
 use Rattle.pdcp_pdu.specs.Bitmap.{names}
 use Rattle.pdcp_tx.specs.Sender.{Sender, Entry, least, low, is_kept, Rises}
 use Rattle.pdcp_tx.specs.Sending.{taken, numbered, confirmed, reported}
-use Rattle.pdcp_tx.proofs.Entries.{least-first}
-use Rattle.pdcp_tx.proofs.Places.{without_past}
+use Rattle.pdcp_tx.proofs.Entries.{least-first, without_past}
 
 -- ---- what leaves
 

@@ -1,5 +1,9 @@
 pub mod Entries
-pub mod Places
+pub mod Marks
+pub mod Slots
+pub mod Emptied
+pub mod Named
+pub mod Grown
 pub mod Parts
 pub mod Rules
 pub mod Laws

@@ -7,7 +7,7 @@ ghost use Rattle.std.specs.Option.{option_copied};
 ghost use Rattle.dc_base.specs.Count.{window};
 ghost use Rattle.pdcp_tx.specs.Sender.{counts, low, sdu_at};
 
-use crate::kept::{Kept, counts_of, drop_named, drop_one, least, number_all, sdu_at};
+use crate::kept::{Kept, counts_of, drop_named, drop_one, into_live, least, number_all, sdu_at};
 use dc_base::{Memory, Octets, Seq, SnLen, window};
 use std::alloc::Global;
 use std::collections::VecDeque;
@@ -52,13 +52,14 @@ pub struct Tx {
 }
 
 impl Model for Tx {
-    ghost use Rattle.pdcp_tx.specs.Sender.{Sender, InWindow};
+    ghost use Rattle.pdcp_tx.specs.Sender.{Sender};
+    ghost use Rattle.pdcp_tx.specs.Slots.{live, IsKept};
 
     ghost Value = { Sender };
 
-    ghost view = { λ a. record { n = a.n; next = a.next; kept = a.kept.items; held = a.held.items } };
+    ghost view = { λ a. record { n = a.n; next = a.next; kept = live a.next a.kept.items; held = a.held.items } };
 
-    ghost invariant = { λ a. InWindow a.n a.next a.kept.items };
+    ghost invariant = { λ a. IsKept a.n a.next a.kept.items };
 }
 
 impl Tx {
@@ -160,7 +161,7 @@ impl Tx {
     pub fn unconfirmed(&self) -> Result<Seq<u32>, Memory>
         ensures { IfOk result (λ found. found ≡ counts self.now.kept) }
     {
-        match counts_of(&self.kept) {
+        match counts_of(&self.kept, self.next) {
             Ok(found) => Ok(Seq::from_vec(found)),
             Err(_) => Err(Memory),
         }
@@ -197,7 +198,7 @@ impl Tx {
         TxParts {
             n: self.n,
             next: self.next,
-            kept: Seq::from_vec(self.kept.into_vec()),
+            kept: Seq::from_vec(into_live(self.kept, self.next)),
             held: Seq::from_vec(self.held.into_vec()),
         }
     }

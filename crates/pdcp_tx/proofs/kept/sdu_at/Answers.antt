@@ -1,22 +1,17 @@
-use Rattle.std.proofs.Common.{ℕ, List, Some, ◌<◌, ◌≤◌, length, sym, ap, ◌∙◌, rules, arith}
+use Rattle.std.proofs.Common.{ℕ, List, Some, sym, ap, ◌∙◌}
 use Rattle.std.proofs.lemmas.List.{get_or_default}
 use Rattle.pdcp_tx.specs.Sender.{Entry}
-use Rattle.pdcp_tx.proofs.Places.{found_there, not_there}
+use Rattle.pdcp_tx.proofs.Emptied.{found-there}
+use Rattle.pdcp_tx.proofs.Slots.{sdu_at-not_kept}
 use Rattle.pdcp_tx.proofs.kept.sdu_at.Goals as goal
 
-pub returns-in-None : goal.returns-in-None
-returns-in-None c =
-    let out : length c.args.kept.now.items ≤ c.place_of.result = search rules in
-    sym (not_there c.args.count c.requires.from c.args.next c.args.kept.now.items c.place_of.result c.requires.rises c.place_of.ensures.place (λ d inside same. omega arith))
+pub returns-then-is_there : goal.returns-then-is_there
+returns-then-is_there c =
+    let there = rw c.if-is_there.true at c.is_there.ensures.there in
+    let slots = c.args.kept.now.items in
+    let same = c.index.ensures ∙ get_or_default slots c.place_of-place.result c.index.result.now there.0 there.1 ∙ sym there.2 in
+    ap (λ (sdu : List ℕ). Some sdu) (c.as_slice.ensures ∙ ap (λ (e : Entry). e.1) same)
+    ∙ sym (found-there c.args.count c.requires.from c.args.next slots c.place_of-place.result there.0 c.requires.rises (record { inside = there.1; at = there.2; same = there.3; live = there.4 }))
 
-pub returns-then-entry-count : goal.returns-then-entry-count
-returns-then-entry-count c =
-    let inside : c.place_of.result < length c.args.kept.now.items = search rules in
-    ap (λ (sdu : List ℕ). Some sdu) c.as_slice.ensures
-    ∙ sym (found_there c.args.count c.requires.from c.args.next c.args.kept.now.items c.place_of.result c.in-Some.entry.now c.requires.rises c.place_of.ensures.place inside c.in-Some.ensures.lookup c.if-entry-count.true)
-
-pub returns-else-entry-count : goal.returns-else-entry-count
-returns-else-entry-count c =
-    sym (not_there c.args.count c.requires.from c.args.next c.args.kept.now.items c.place_of.result c.requires.rises c.place_of.ensures.place
-    (λ d inside same. c.if-entry-count.false
-    (ap (λ (e : Entry). e.0) (c.in-Some.ensures.lookup ∙ get_or_default c.args.kept.now.items c.place_of.result c.in-Some.entry.now d inside) ∙ same)))
+pub returns-else-is_there : goal.returns-else-is_there
+returns-else-is_there c = sym (sdu_at-not_kept c.args.count _ (rw c.if-is_there.false at c.is_there.ensures.other))

@@ -1,11 +1,12 @@
+use Rattle.pdcp_tx.specs.Slots.{live}
 use Rattle.pdcp_tx.proofs.Parts.{counts-increasing, counts-below, counts-near}
 use Rattle.pdcp_tx.proofs.tx.Tx.freeze.Goals as goal
 
 pub returns-clause-ascending : goal.returns-clause-ascending
-returns-clause-ascending c = rw (c.from_vec.ensures, c.into_vec.ensures.items) (counts-increasing c.self.inside.n c.self.inside.next c.self.inside.kept.items c.self.invariant)
+returns-clause-ascending c = rw (c.from_vec.ensures, c.into_live.ensures) (counts-increasing c.self.inside.n c.self.inside.next (live c.self.inside.next c.self.inside.kept.items) c.self.invariant.window)
 
 pub returns-clause-below : goal.returns-clause-below
-returns-clause-below c = rw (c.from_vec.ensures, c.into_vec.ensures.items) (counts-below c.self.inside.n c.self.inside.next c.self.inside.kept.items c.self.invariant)
+returns-clause-below c = rw (c.from_vec.ensures, c.into_live.ensures) (counts-below c.self.inside.n c.self.inside.next (live c.self.inside.next c.self.inside.kept.items) c.self.invariant.window)
 
 pub returns-clause-near : goal.returns-clause-near
-returns-clause-near c = rw (c.from_vec.ensures, c.into_vec.ensures.items) (counts-near c.self.inside.n c.self.inside.next c.self.inside.kept.items c.self.invariant)
+returns-clause-near c = rw (c.from_vec.ensures, c.into_live.ensures) (counts-near c.self.inside.n c.self.inside.next (live c.self.inside.next c.self.inside.kept.items) c.self.invariant.window)

@@ -1,7 +1,0 @@
-use Rattle.std.proofs.Common.{not, ◌==◌}
-use Rattle.pdcp_tx.specs.Sender.{Entry}
-use Rattle.pdcp_tx.proofs.Entries.{in_window-filter}
-use Rattle.pdcp_tx.proofs.tx.Tx.confirm.Goals as goal
-
-pub invariant_of-self : goal.invariant_of-self
-invariant_of-self c = rw c.drop_one.ensures (in_window-filter (λ (e : Entry). not (e.0 == c.args.count)) c.self.inside.n c.self.inside.next c.self.inside.kept.items c.self.invariant)
