@@ -56,6 +56,10 @@ mt_air = record { from = M; to = T; class = Air }
 abbrev pub tm_air : LinkId
 tm_air = record { from = T; to = M; class = Air }
 
+-- whether the master receives from it
+abbrev pub is_to_master : LinkId → Bool
+is_to_master l = node_number l.to == 1
+
 -- the link of the same class the other way
 abbrev pub reverse : LinkId → LinkId
 reverse l = record { from = l.to; to = l.from; class = l.class }
