@@ -1,2 +1,3 @@
 pub mod OnEach
 pub mod Growing
+pub mod Establishing
