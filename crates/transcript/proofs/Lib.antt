@@ -1,3 +1,2 @@
 pub mod OnEach
 pub mod Growing
-pub mod Establishing

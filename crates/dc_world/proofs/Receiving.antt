@@ -1,0 +1,40 @@
+-- A data PDU is taken, or is aged.
+use Rattle.std.proofs.Common.{ℕ, ◌≡◌, ◌+◌, ◌-◌, ◌^◌, ◌<◌, ◌≤◌, ◌++◌, List, [], ◌∷◌, Option, Some, None, Bool, true, false, length, slice_get, refl, sym, ap, ◌∙◌, subst}
+use Rattle.std.specs.Prelude.{Contains, Ok, nat_le, is_some}
+use Rattle.dc_base.specs.declared.numbers.SnLen.{SnLen}
+use Rattle.dc_base.specs.declared.nodes.Dir.{Dir}
+use Rattle.dc_base.specs.declared.nodes.Shape.{Shape}
+use Rattle.dc_base.specs.declared.flights.Flight.{Flight}
+use Rattle.dc_base.specs.declared.answers.Answer.TheVariants as answer
+use Rattle.dc_base.specs.declared.answers.Refusal.{Refusal}
+use Rattle.dc_base.specs.declared.answers.Refusal.TheVariants.{Aged}
+use Rattle.dc_base.specs.declared.events.Header.{Header}
+use Rattle.dc_base.specs.declared.events.Event.{Event}
+use Rattle.dc_base.specs.declared.events.Event.TheVariants.{Bearer, Submit, Step}
+use Rattle.dc_base.specs.declared.events.Line.TheVariants as line
+use Rattle.pdcp_pdu.specs.DataPdu.{IsPayload}
+use Rattle.pdcp_tx.specs.Sender.{Sender}
+use Rattle.pdcp_tx.specs.Sending.{taken}
+use Rattle.transcript.specs.Transcript.{Entry}
+use Rattle.transcript.specs.Content.{mt_ctl, tm_ctl}
+use Rattle.transcript.specs.Bearers.{at_submitter}
+use Rattle.transcript.specs.Claims.{is_mm}
+use Rattle.dc_world.specs.Entities.{Entities, bearer_in, with_bearer}
+use Rattle.dc_world.specs.Plane.{leg, other, data_flight, air_taken, is_aged}
+use Rattle.dc_world.specs.Control.{Nodes, set_up, told_terminal, told_master}
+use Rattle.dc_world.specs.Links.{on}
+use Rattle.dc_world.specs.Run.{WorldState}
+use Rattle.dc_world.proofs.Tables.{with_sender, with_receiver}
+use Rattle.dc_world.proofs.Sound.{sender_table, receiver_table, IsPduOf, IsAckOf, Happened, Sound}
+
+module _ (h : Header) (policies : ℕ) (t : List Entry) (w : WorldState) (sound : Sound h policies t w) where
+  -- a data PDU is taken
+  pub data_happened : (d : Dir) (i : ℕ) (f : Flight) → slice_get (on w.links (leg d)) i ≡ Some f → IsPduOf h t d f → is_aged (receiver_table d w.nodes) f ≡ false
+      → let done = air_taken h d (receiver_table d w.nodes) f in
+        Happened h policies t w (record { event = Step (leg d) i; answer = answer.Ok; lines = done.1 }) (with_receiver d w.nodes done.0)
+  data_happened d i f at pdu young = ?
+
+  -- an aged one is not
+  pub aged_happened : (d : Dir) (i : ℕ) (f : Flight) → slice_get (on w.links (leg d)) i ≡ Some f → IsPduOf h t d f → is_aged (receiver_table d w.nodes) f ≡ true
+      → Happened h policies t w (record { event = Step (leg d) i; answer = answer.No Aged; lines = [] }) w.nodes
+  aged_happened d i f at pdu old = ?
