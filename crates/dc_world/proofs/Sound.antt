@@ -23,7 +23,7 @@ use Rattle.transcript.specs.Content.{content, content_after, mt_ctl, tm_ctl, pla
 use Rattle.transcript.specs.Bearers.{Established, established, latest, generation, plans, key_in, master_key, submitted, submission, handed, ups, numbered, confirmed, confirms, tag_of, tags_sent, frees, told, open_command, at_terminal, least_but}
 use Rattle.transcript.specs.Claims.{TakesData, KeepsAll, IsKept, Protects, Carried, HasCause, IsLicensed}
 use Rattle.transcript.proofs.OnEach.{each_append, each_weaker}
-use Rattle.dc_world.proofs.Establishing.{IsOnce}
+use Rattle.transcript.proofs.Establishing.{IsOnce}
 use Rattle.dc_world.specs.Entities.{Entities, Table, fresh, bearer_in}
 use Rattle.dc_world.specs.Plane.{leg, data_flight}
 use Rattle.dc_world.specs.Control.{Nodes, plan_for}

@@ -30,7 +30,7 @@ use Rattle.key_chain.specs.KeyNames.{upenc}
 use Rattle.pdcp_pdu.specs.DataPdu.{data_pdu}
 use Rattle.transcript.specs.Text.{is_data}
 use Rattle.transcript.specs.Transcript.{Entry, sends, Each, SomeEntry}
-use Rattle.transcript.specs.Content.{mt_ctl, tm_ctl, mt_air, reverse, direction, content, given}
+use Rattle.transcript.specs.Content.{mt_ctl, tm_ctl, reverse, direction, content, given}
 use Rattle.transcript.specs.Bearers.{Established, established, latest, is_generation_of, plans, plan_drawn, key_in, roots, submitted, ups, handed, numbered, frees, told, open_command, at_master, at_submitter}
 
 -- the flight is a data PDU of the bearer in this direction
