@@ -96,3 +96,52 @@ pub contents-next : (t : List Entry) (e : Entry) (links : Links) → length link
     → (l : LinkId) → content l (t ++ e ∷ []) ≡ on (moved links (place_taken e.event e.answer) e.lines) l
 contents-next t e links long same l =
     content-next l t e ∙ ap (λ fs. content_after l fs e) (same l) ∙ sym (on_moved links (place_taken e.event e.answer) e.lines l long)
+
+-- nodes and classes of one number are one
+node_is : (m n : Node) → node_number m ≡ node_number n → m ≡ n
+node_is T T e = refl
+node_is T M e = absurd (omega (arith, e))
+node_is T A e = absurd (omega (arith, e))
+node_is T B e = absurd (omega (arith, e))
+node_is M T e = absurd (omega (arith, e))
+node_is M M e = refl
+node_is M A e = absurd (omega (arith, e))
+node_is M B e = absurd (omega (arith, e))
+node_is A T e = absurd (omega (arith, e))
+node_is A M e = absurd (omega (arith, e))
+node_is A A e = refl
+node_is A B e = absurd (omega (arith, e))
+node_is B T e = absurd (omega (arith, e))
+node_is B M e = absurd (omega (arith, e))
+node_is B A e = absurd (omega (arith, e))
+node_is B B e = refl
+
+class_is : (m n : Class) → class_number m ≡ class_number n → m ≡ n
+class_is Ctl Ctl e = refl
+class_is Ctl Feed e = absurd (omega (arith, e))
+class_is Ctl Air e = absurd (omega (arith, e))
+class_is Ctl Tun e = absurd (omega (arith, e))
+class_is Feed Ctl e = absurd (omega (arith, e))
+class_is Feed Feed e = refl
+class_is Feed Air e = absurd (omega (arith, e))
+class_is Feed Tun e = absurd (omega (arith, e))
+class_is Air Ctl e = absurd (omega (arith, e))
+class_is Air Feed e = absurd (omega (arith, e))
+class_is Air Air e = refl
+class_is Air Tun e = absurd (omega (arith, e))
+class_is Tun Ctl e = absurd (omega (arith, e))
+class_is Tun Feed e = absurd (omega (arith, e))
+class_is Tun Air e = absurd (omega (arith, e))
+class_is Tun Tun e = refl
+
+-- links of one number are one link
+pub same_link : (l k : LinkId) → is_same_link l k ≡ true → l ≡ k
+same_link l k same =
+    let is : link_number l ≡ link_number k = eqb-true (link_number l) (link_number k) same in
+    let a = node_small l.from in let b = node_small l.to in let c = node_small k.from in let d = node_small k.to in
+    let from = node_is l.from k.from (omega (arith, is, a, b, c, d)) in
+    let to = node_is l.to k.to (omega (arith, is, a, b, c, d)) in
+    let class = class_is l.class k.class (omega (arith, is, a, b, c, d)) in
+    ap (λ n. record { from = n; to = l.to; class = l.class }) from
+    ∙ ap (λ n. record { from = k.from; to = n; class = l.class }) to
+    ∙ ap (λ n. record { from = k.from; to = k.to; class = n }) class
