@@ -122,7 +122,7 @@ served_complete t s links b d served none =
     (λ c from below. elim (served.owed c from below) [ inl got ↦ got | inr way ↦ absurd (subst (IsUnderWay b c) none way) ]))
 
 -- where the window of a bearer begins is its sender's Low
-served_told : (t : List Entry) (s : Nodes) (links : Links) (b : Established) (d : Dir) → IsServed t s links b d → told b d t ≡ low (half b (sender_table d s)).tx
+pub served_told : (t : List Entry) (s : Nodes) (links : Links) (b : Established) (d : Dir) → IsServed t s links b d → told b d t ≡ low (half b (sender_table d s)).tx
 served_told t s links b d served =
     let x = half b (sender_table d s) in let y = half b (receiver_table d s) in
     sym (low_is b.n b.first (submitted b d t) (confirmed b d t) x.tx x.sent y.rx served.lane)

@@ -1,0 +1,154 @@
+-- The run theorem: the transcript of every run meets the claims.
+use Rattle.std.proofs.Common.{ℕ, zero, suc, ◌≡◌, ◌+◌, ◌-◌, ◌^◌, ◌<◌, ◌≤◌, ◌==◌, ◌&&◌, ◌++◌, List, [], ◌∷◌, Option, Some, None, Bool, true, false, length, slice_get, refl, sym, ap, ◌∙◌, subst, arith, inl, inr, append_assoc}
+use Rattle.std.specs.Prelude.{if◌then◌else◌, nat_lt, nat_le, not, is_some, Contains, Ok, Err, Result, replicate, slice_index_or, ⊤}
+use Rattle.std.specs.List.{AllByRecursion}
+use Rattle.std.specs.Option.{option_map}
+use Rattle.std.proofs.lemmas.List.{append-nil, set-get_or}
+use Rattle.std.proofs.lemmas.Option.{same_Some, slice_get_within, slice_get_past}
+use Rattle.std.proofs.lemmas.Bool.{cases_Bool, cond_both, cond-true, cond-false, eqb-true}
+use Rattle.std.proofs.lemmas.Bool.Decides.{nat_tests}
+use Rattle.dc_base.specs.Count.{window}
+use Rattle.dc_base.specs.declared.numbers.SnLen.{SnLen}
+use Rattle.dc_base.specs.declared.nodes.Class.{Class}
+use Rattle.dc_base.specs.declared.nodes.Class.TheVariants.{Ctl, Feed, Air, Tun}
+use Rattle.dc_base.specs.declared.nodes.Dir.{Dir}
+use Rattle.dc_base.specs.declared.nodes.Dir.TheVariants.{Ul, Dl}
+use Rattle.dc_base.specs.declared.nodes.LinkId.{LinkId}
+use Rattle.dc_base.specs.declared.nodes.Node.{Node}
+use Rattle.dc_base.specs.declared.nodes.Node.TheVariants.{T, M, A, B}
+use Rattle.dc_base.specs.declared.nodes.Shape.{Shape}
+use Rattle.dc_base.specs.declared.flights.Flight.{Flight}
+use Rattle.dc_base.specs.declared.flights.Flight.TheVariants as flight
+use Rattle.dc_base.specs.declared.answers.Answer.TheVariants as answer
+use Rattle.dc_base.specs.declared.answers.Answer.TheVariants.{No}
+use Rattle.dc_base.specs.declared.answers.Refusal.{Refusal}
+use Rattle.dc_base.specs.declared.answers.Refusal.TheVariants.{NoBearer, BearerThere, Busy, NoSecondary, NoFlight, NotFirst, NotTunnel, Aged, Full, Exhausted, NoPolicy}
+use Rattle.dc_base.specs.declared.events.Header.{Header}
+use Rattle.dc_base.specs.declared.events.Event.{Event}
+use Rattle.dc_base.specs.declared.events.Event.TheVariants.{Bearer, Reshape, Remove, Add, Change, Release, RekeySecond, RekeyMaster, Recover, Report, Deny, Ask, ScgFail, Submit, Step, Lose, Again}
+use Rattle.dc_base.specs.declared.events.Line.{Line}
+use Rattle.pdcp_pdu.specs.DataPdu.{IsPayload}
+use Rattle.pdcp_tx.specs.Sender.{Sender, low}
+use Rattle.pdcp_tx.specs.Sending.{taken}
+use Rattle.pdcp_tx.specs.declared.tx.TxErr.{TxErr}
+use Rattle.pdcp_tx.specs.declared.tx.TxErr.TheVariants as refused
+use Rattle.transcript.specs.Transcript.{Entry}
+use Rattle.transcript.specs.Content.{content, link, mt_ctl, tm_ctl, place_taken}
+use Rattle.transcript.specs.Bearers.{Established, established, latest, open_command, unless_opening, is_opening, at_master, at_terminal, at_submitter, submitted, told}
+use Rattle.transcript.specs.Claims.{is_mm, is_ordered, is_tunnel, bearer_answer, submit_answer, step_answer, tunnel_answer, due_answer, HasCause, IsDataFlight, IsOneUse, IsFaithful}
+use Rattle.transcript.proofs.OnEach.{each_at}
+use Rattle.transcript.proofs.Establishing.{IsOnce, same_bearer, generation_there}
+use Rattle.dc_world.specs.Entities.{Entities, Table, bearer_in, with_bearer, no_bearers}
+use Rattle.dc_world.specs.Plane.{Outcome, leg, other, data_flight, numbered_as, air_taken, is_aged}
+use Rattle.dc_world.specs.Plane.{submitted as submitted_in}
+use Rattle.dc_world.specs.Control.{Nodes, new_nodes, set_up, commanded, told_terminal, told_master, is_open}
+use Rattle.dc_world.specs.Links.{Links, on, moved, no_links}
+use Rattle.dc_world.specs.Run.{WorldState, new_world, IsGood, is_built, unless_open, table_at, taken_from, stepped, tunnelled, tunnelled_at, decided, happen, entry_of, world_after, entries_from}
+use Rattle.dc_world.proofs.Lane.{low_is}
+use Rattle.dc_world.proofs.Sound.{half, sender_table, receiver_table, IsPduOf, IsAckOf, IsServed, IsTabled, Promise, Phase, idle, Happened, Sound}
+use Rattle.dc_world.proofs.Sound.{commanded as phase_commanded, answered as phase_answered}
+use Rattle.dc_world.proofs.Tables.{with_sender, with_receiver, is_established}
+use Rattle.dc_world.proofs.Assembly.{sound_next, served_told}
+use Rattle.dc_world.proofs.Refusing.{refused_happened}
+use Rattle.dc_world.proofs.SettingUp.{set_up_happened, told_terminal_happened, told_master_happened}
+use Rattle.dc_world.proofs.Submitting.{submitted_happened}
+use Rattle.dc_world.proofs.Receiving.{data_happened, aged_happened}
+use Rattle.dc_world.proofs.Acking.{ack_happened}
+
+-- a submission is taken, or refused for a full window or for want of a COUNT
+taken_cases : (Q : Result (Sender × ℕ) TxErr → Type 0) (tx : Sender) (p : List ℕ)
+    → (nat_le (low tx + window tx.n) tx.next ≡ true → Q (Err (refused.Full (low tx) tx.next)))
+    → (nat_le (low tx + window tx.n) tx.next ≡ false → (tx.next == 2 ^ 32 - 1) ≡ true → Q (Err refused.Exhausted))
+    → ((sender : Sender) (c : ℕ) → taken tx p ≡ Ok (sender, c) → Q (Ok (sender, c)))
+    → Q (taken tx p)
+taken_cases Q tx p full exhausted room =
+    elim (cases_Bool (nat_le (low tx + window tx.n) tx.next)) [
+      | inl yes' ↦ rw yes' (full yes')
+      | inr no' ↦ elim (cases_Bool (tx.next == 2 ^ 32 - 1)) [
+        | inl last ↦ rw (no', last) (exhausted no' last)
+        | inr left ↦
+            let is : taken tx p ≡ Ok (record tx { next = tx.next + 1; kept = tx.kept ++ (tx.next, p) ∷ [] }, tx.next) = rw (no', left) refl in
+            subst Q (sym is) (room (record tx { next = tx.next + 1; kept = tx.kept ++ (tx.next, p) ∷ [] }) tx.next is)
+      ]
+    ]
+
+-- no flight stands on a tunnel
+no_tunnel : (h : Header) (t : List Entry) (s : Nodes) (from to : Node) (f : Flight) → Promise h t s from to Tun f → ⊥
+no_tunnel h t s T T f p = p
+no_tunnel h t s T M f p = p
+no_tunnel h t s T A f p = p
+no_tunnel h t s T B f p = p
+no_tunnel h t s M T f p = p
+no_tunnel h t s M M f p = p
+no_tunnel h t s M A f p = p
+no_tunnel h t s M B f p = p
+no_tunnel h t s A to f p = p
+no_tunnel h t s B to f p = p
+
+module _ (h : Header) (policies : ℕ) (t : List Entry) (w : WorldState) (sound : Sound h policies t w) where
+  -- the run goes on with this decision on an event
+  abbrev Next : Event → Nodes × Outcome → Type 0
+  Next e q = Sound h policies (t ++ record { event = e; answer = q.1.0; lines = q.1.1 } ∷ []) (record w { nodes = q.0; links = moved w.links (place_taken e q.1.0) q.1.1 })
+
+  next : (e : Event) (q : Nodes × Outcome) → Happened h policies t w (record { event = e; answer = q.1.0; lines = q.1.1 }) q.0 → Next e q
+  next e q happened = sound_next h policies t w (record { event = e; answer = q.1.0; lines = q.1.1 }) q.0 sound happened
+
+  -- ---- a new bearer
+
+  refuse_bearer : (id : ℕ) (n : SnLen) (first : ℕ) (shape : Shape) (threshold policy : ℕ) (why : Refusal) → place_taken (Bearer id n first shape threshold policy) (No why) ≡ None
+      → No why ≡ bearer_answer policies t id shape policy → Next (Bearer id n first shape threshold policy) (w.nodes, (No why, []))
+  refuse_bearer id n first shape threshold policy why none due =
+      next (Bearer id n first shape threshold policy) (w.nodes, (No why, []))
+      (refused_happened h policies t w sound (Bearer id n first shape threshold policy) why (λ g. refl) refl (λ b d c. refl) refl none due)
+
+  -- what the master has of an identity is what the transcript says
+  at_master_is : (id : ℕ) → at_master id t ≡ option_map (λ e. e.bearer) (unless_open w.nodes.busy (bearer_in w.nodes.master id))
+  at_master_is id =
+      ap (λ g. unless_opening g (latest id (established t))) (sym sound.tables.busy_is)
+      ∙ ap (unless_opening w.nodes.busy) (sym (sound.tables.master_is id))
+      ∙ mapped w.nodes.busy (bearer_in w.nodes.master id)
+    where
+      opening_is : (g : Option ℕ) (e : Entities) → is_opening g e.bearer ≡ is_open g e.bearer.g
+      opening_is None e = refl
+      opening_is (Some g) e = refl
+
+      mapped : (g : Option ℕ) (o : Option Entities) → unless_opening g (option_map (λ e. e.bearer) o) ≡ option_map (λ e. e.bearer) (unless_open g o)
+      mapped g None = refl
+      mapped g (Some e) = rw (opening_is g e) (elim (cases_Bool (is_open g e.bearer.g)) [ inl yes' ↦ rw yes' refl | inr no' ↦ rw no' refl ])
+
+  is_some_map : (o : Option Entities) → is_some (option_map (λ e. e.bearer) o) ≡ is_some o
+  is_some_map None = refl
+  is_some_map (Some e) = refl
+
+  -- with no command open that is all that it has
+  idle_has : (id : ℕ) → is_some w.nodes.busy ≡ false → is_some (at_master id t) ≡ is_some (bearer_in w.nodes.master id)
+  idle_has id free = ap (λ (o : Option Established). is_some o) (at_master_is id) ∙ is_some_map (unless_open w.nodes.busy (bearer_in w.nodes.master id)) ∙ unopened w.nodes.busy free (bearer_in w.nodes.master id)
+    where
+      unopened : (g : Option ℕ) → is_some g ≡ false → (o : Option Entities) → is_some (unless_open g o) ≡ is_some o
+      unopened None free None = refl
+      unopened None free (Some e) = refl
+      unopened (Some g) free o = absurd cc
+
+  bearer_sound : (id : ℕ) (n : SnLen) (first : ℕ) (shape : Shape) (threshold policy : ℕ) → id ≤ 32 → first < 2 ^ 32 - 1
+      → Next (Bearer id n first shape threshold policy) (commanded policies h w.nodes id n first shape threshold policy)
+  bearer_sound id n first shape threshold policy small short =
+      let e = Bearer id n first shape threshold policy in
+      let same : is_some (open_command t) ≡ is_some w.nodes.busy = ap (λ (o : Option ℕ). is_some o) (sym sound.tables.busy_is) in
+      cond_both (is_some w.nodes.busy) (w.nodes, (No Busy, [])) _ (Next e)
+      (λ busy. refuse_bearer id n first shape threshold policy Busy refl (sym (cond-true _ _ _ (same ∙ busy))))
+      (λ free.
+      let has = idle_has id free in
+      cond_both (is_some (bearer_in w.nodes.master id)) (w.nodes, (No BearerThere, [])) _ (Next e)
+      (λ there. refuse_bearer id n first shape threshold policy BearerThere refl (sym (cond-false _ _ _ (same ∙ free) ∙ cond-true _ _ _ (has ∙ there))))
+      (λ new.
+      cond_both (not (is_mm shape)) (w.nodes, (No NoSecondary, [])) _ (Next e)
+      (λ away. refuse_bearer id n first shape threshold policy NoSecondary refl (sym (cond-false _ _ _ (same ∙ free) ∙ cond-false _ _ _ (has ∙ new) ∙ cond-true _ _ _ away)))
+      (λ mm.
+      cond_both (nat_le policies policy) (w.nodes, (No NoPolicy, [])) (set_up h w.nodes id n first shape threshold policy) (Next e)
+      (λ unknown. refuse_bearer id n first shape threshold policy NoPolicy refl (sym (cond-false _ _ _ (same ∙ free) ∙ cond-false _ _ _ (has ∙ new) ∙ cond-false _ _ _ mm ∙ cond-true _ _ _ unknown)))
+      (λ known. next e (set_up h w.nodes id n first shape threshold policy)
+      (set_up_happened h policies t w sound id n first shape threshold policy small short free new (not_not (is_mm shape) mm) known)))))
+    where
+      not_not : (c : Bool) → not c ≡ false → c ≡ true
+      not_not true no' = refl
+      not_not false no' = absurd cc
