@@ -45,7 +45,7 @@ use Rattle.dc_world.specs.Control.{Nodes, new_nodes, set_up, commanded, told_ter
 use Rattle.dc_world.specs.Links.{Links, on, moved, no_links}
 use Rattle.dc_world.specs.Run.{WorldState, new_world, IsGood, is_built, unless_open, table_at, taken_from, stepped, tunnelled, tunnelled_at, decided, happen, entry_of, world_after, entries_from}
 use Rattle.dc_world.proofs.Lane.{low_is}
-use Rattle.dc_world.proofs.Sound.{half, sender_table, receiver_table, IsPduOf, IsAckOf, IsServed, IsTabled, Promise, Phase, idle, Happened, Sound}
+use Rattle.dc_world.proofs.Sound.{or_fresh, half, sender_table, receiver_table, IsPduOf, IsAckOf, IsServed, IsTabled, Promise, Phase, idle, Happened, Sound}
 use Rattle.dc_world.proofs.Sound.{commanded as phase_commanded, answered as phase_answered}
 use Rattle.dc_world.proofs.Tables.{with_sender, with_receiver, is_established}
 use Rattle.dc_world.proofs.Assembly.{sound_next, served_told}
@@ -152,3 +152,75 @@ module _ (h : Header) (policies : ℕ) (t : List Entry) (w : WorldState) (sound 
       not_not : (c : Bool) → not c ≡ false → c ≡ true
       not_not true no' = refl
       not_not false no' = absurd cc
+
+  -- ---- a submission
+
+  -- the bearer to which a node submits in this direction
+  abbrev serving : Dir → ℕ → Option Entities
+  serving Dl id = unless_open w.nodes.busy (bearer_in w.nodes.master id)
+  serving Ul id = bearer_in w.nodes.terminal id
+
+  serving_is : (d : Dir) (id : ℕ) → at_submitter d id t ≡ option_map (λ e. e.bearer) (serving d id)
+  serving_is Dl id = at_master_is id
+  serving_is Ul id = sym (sound.tables.terminal_is id)
+
+  serving_in : (d : Dir) (id : ℕ) (e : Entities) → serving d id ≡ Some e → bearer_in (sender_table d w.nodes) id ≡ Some e
+  serving_in Dl id e is = opened w.nodes.busy (bearer_in w.nodes.master id) is
+    where
+      opened : (g : Option ℕ) (o : Option Entities) → unless_open g o ≡ Some e → o ≡ Some e
+      opened g None is = absurd cc
+      opened g (Some x) is = elim (cases_Bool (is_open g x.bearer.g)) [ inl yes' ↦ (let e = rw yes' at is in absurd (cc (e))) | inr no' ↦ (let e = rw no' at is in e) ]
+  serving_in Ul id e is = is
+
+  refuse_submission : (id : ℕ) (d : Dir) (payload : List ℕ) (why : Refusal) → place_taken (Submit id d payload) (No why) ≡ None
+      → No why ≡ submit_answer d t (at_submitter d id t) → Next (Submit id d payload) (w.nodes, (No why, []))
+  refuse_submission id d payload why none due =
+      next (Submit id d payload) (w.nodes, (No why, []))
+      (refused_happened h policies t w sound (Submit id d payload) why (λ g. refl) refl (λ b d c. refl) refl none due)
+
+  module _ (id : ℕ) (d : Dir) (payload : List ℕ) (good : IsPayload payload) where
+    abbrev decision : Table × Outcome → Nodes × Outcome
+    decision q = (with_sender d w.nodes q.0, q.1)
+
+    -- the table is as it was where the bearer in it is
+    put_back : (e : Entities) → bearer_in (sender_table d w.nodes) id ≡ Some e → with_sender d w.nodes (with_bearer (sender_table d w.nodes) id (Some e)) ≡ w.nodes
+    put_back e at =
+        ap (with_sender d w.nodes) (ap (with_bearer (sender_table d w.nodes) id) (sym at) ∙ set-get_or (sender_table d w.nodes) id None) ∙ same d
+      where
+        same : (d : Dir) → with_sender d w.nodes (sender_table d w.nodes) ≡ w.nodes
+        same Dl = refl
+        same Ul = refl
+
+    submit_to : (e : Entities) → serving d id ≡ Some e → Next (Submit id d payload) (decision (submitted_in h d (sender_table d w.nodes) id payload (Some e)))
+    submit_to e is =
+        let at = serving_in d id e is in
+        let there : at_submitter d id t ≡ Some e.bearer = serving_is d id ∙ ap (option_map (λ (x : Entities). x.bearer)) is in
+        let known = is_established t w.nodes sound.tables d id e at in
+        let b = e.bearer in
+        let served = sound.served b d known.0 in
+        let mine : half b (sender_table d w.nodes) ≡ e = ap (λ k. or_fresh b (bearer_in (sender_table d w.nodes) k)) known.1 ∙ ap (or_fresh b) at in
+        let begins : told b d t ≡ low e.tx = served_told t w.nodes w.links b d served ∙ ap (λ (x : Entities). low x.tx) mine in
+        let counted : b.first + length (submitted b d t) ≡ e.tx.next = sym served.lane.counted ∙ ap (λ (x : Entities). x.tx.next) mine in
+        let n : b.n ≡ e.tx.n = sym served.lane.tx_length ∙ ap (λ (x : Entities). x.tx.n) mine in
+        let due : submit_answer d t (at_submitter d id t) ≡ (if nat_le (low e.tx + window e.tx.n) e.tx.next then No Full else if e.tx.next == 2 ^ 32 - 1 then No Exhausted else answer.Ok) =
+        ap (submit_answer d t) there
+        ∙ ap (λ m. if nat_le (m + window b.n) (b.first + length (submitted b d t)) then No Full else if (b.first + length (submitted b d t)) == 2 ^ 32 - 1 then No Exhausted else answer.Ok) begins
+        ∙ ap (λ k. if nat_le (low e.tx + window b.n) k then No Full else if k == 2 ^ 32 - 1 then No Exhausted else answer.Ok) counted
+        ∙ ap (λ k. if nat_le (low e.tx + window k) e.tx.next then No Full else if e.tx.next == 2 ^ 32 - 1 then No Exhausted else answer.Ok) n in
+        let Q : Nodes × Outcome → Type 0 = Next (Submit id d payload) in
+        let back = put_back e at in
+        taken_cases (λ r. Q (let done = numbered_as h d e payload r in decision (with_bearer (sender_table d w.nodes) id (Some done.0), done.1))) e.tx payload
+        (λ full. subst (λ s. Q (s, (No Full, []))) (sym back) (refuse_submission id d payload Full refl (sym (due ∙ cond-true _ _ _ full))))
+        (λ room last. subst (λ s. Q (s, (No Exhausted, []))) (sym back) (refuse_submission id d payload Exhausted refl (sym (due ∙ cond-false _ _ _ room ∙ cond-true _ _ _ last))))
+        (λ tx c ok. next (Submit id d payload) (decision (let done = numbered_as h d e payload (Ok (tx, c)) in (with_bearer (sender_table d w.nodes) id (Some done.0), done.1)))
+        (submitted_happened h policies t w sound id d payload e tx c good at there ok))
+
+    submit_any : (o : Option Entities) → serving d id ≡ o → Next (Submit id d payload) (decision (submitted_in h d (sender_table d w.nodes) id payload o))
+    submit_any None is =
+        subst (λ s. Next (Submit id d payload) (s, (No NoBearer, []))) (same d)
+        (refuse_submission id d payload NoBearer refl (sym (ap (submit_answer d t) (serving_is d id ∙ ap (option_map (λ (x : Entities). x.bearer)) is))))
+      where
+        same : (d : Dir) → w.nodes ≡ with_sender d w.nodes (sender_table d w.nodes)
+        same Dl = refl
+        same Ul = refl
+    submit_any (Some e) is = submit_to e is
