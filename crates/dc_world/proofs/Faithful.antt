@@ -1,5 +1,5 @@
 -- The run theorem: the transcript of every run meets the claims.
-use Rattle.std.proofs.Common.{ℕ, zero, suc, ◌≡◌, ◌+◌, ◌-◌, ◌^◌, ◌<◌, ◌≤◌, ◌==◌, ◌&&◌, ◌++◌, List, [], ◌∷◌, Option, Some, None, Bool, true, false, length, slice_get, refl, sym, ap, ◌∙◌, subst, arith, inl, inr, append_assoc}
+use Rattle.std.proofs.Common.{ℕ, zero, suc, ◌≡◌, ◌+◌, ◌-◌, ◌^◌, ◌<◌, ◌≤◌, ◌==◌, ◌&&◌, ◌⊎◌, ◌++◌, List, [], ◌∷◌, Option, Some, None, Bool, true, false, length, slice_get, refl, sym, ap, ◌∙◌, subst, arith, inl, inr, append_assoc}
 use Rattle.std.specs.Prelude.{if◌then◌else◌, nat_lt, nat_le, not, is_some, Contains, Ok, Err, Result, replicate, slice_index_or, ⊤}
 use Rattle.std.specs.List.{AllByRecursion}
 use Rattle.std.specs.Option.{option_map}
@@ -19,6 +19,8 @@ use Rattle.dc_base.specs.declared.nodes.Node.TheVariants.{T, M, A, B}
 use Rattle.dc_base.specs.declared.nodes.Shape.{Shape}
 use Rattle.dc_base.specs.declared.flights.Flight.{Flight}
 use Rattle.dc_base.specs.declared.flights.Flight.TheVariants as flight
+use Rattle.dc_base.specs.declared.records.Rec.{Rec}
+use Rattle.dc_base.specs.declared.records.Rec.TheVariants.{Reconf, Rcomp}
 use Rattle.dc_base.specs.declared.answers.Answer.TheVariants as answer
 use Rattle.dc_base.specs.declared.answers.Answer.TheVariants.{No}
 use Rattle.dc_base.specs.declared.answers.Refusal.{Refusal}
@@ -224,3 +226,99 @@ module _ (h : Header) (policies : ℕ) (t : List Entry) (w : WorldState) (sound 
         same Dl = refl
         same Ul = refl
     submit_any (Some e) is = submit_to e is
+
+  -- ---- a step
+
+  refuse_step : (l : LinkId) (i : ℕ) (why : Refusal) → place_taken (Step l i) (No why) ≡ None → No why ≡ step_answer t l i (slice_get (content l t) i)
+      → Next (Step l i) (w.nodes, (No why, []))
+  refuse_step l i why none due =
+      next (Step l i) (w.nodes, (No why, []))
+      (refused_happened h policies t w sound (Step l i) why (λ g. refl) refl (λ b d c. refl) refl none due)
+
+  -- on a link that keeps its order only the first place is left
+  first_place : (i : ℕ) → nat_lt 0 i ≡ false → i ≡ 0
+  first_place zero is = refl
+  first_place (suc i) is = absurd (let e : nat_lt 0 (suc i) ≡ true = grind (arith, nat_tests) in cc)
+
+  -- on a control link stands one record at most, and a record is never aged
+  abbrev HasRecord : List Flight → Type 0
+  HasRecord fs = (fs ≡ []) ⊎ ((r : Rec) × (fs ≡ flight.Ctl r ∷ []))
+
+  records : Phase h t w.nodes w.links → HasRecord (on w.links mt_ctl) × HasRecord (on w.links tm_ctl)
+  records (idle free reconf rcomp all) = (inl reconf, inl rcomp)
+  records (phase_commanded b there shape threshold policy busy reconf rcomp unused others) = (inr (Reconf _ h.root, reconf), inl rcomp)
+  records (phase_answered b there busy reconf rcomp all) = (inl reconf, inr (Rcomp b.g, rcomp))
+
+  young_record : (fs : List Flight) (f : Flight) (table : Table) → HasRecord fs → slice_get fs 0 ≡ Some f → is_aged table f ≡ false
+  young_record fs f table (inl none) at = absurd (let e : None ≡ Some f = ap (λ (xs : List Flight). slice_get xs 0) (sym none) ∙ at in cc)
+  young_record fs f table (inr (r, one)) at =
+      let is : flight.Ctl r ≡ f = same_Some (flight.Ctl r) f (ap (λ (xs : List Flight). slice_get xs 0) (sym one) ∙ at) in
+      ap (is_aged table) (sym is)
+
+  -- the decision on a step, where the flight is not aged
+  abbrev given : Node → Node → Class → Flight → Nodes × Outcome
+  given from to class f = let done = taken_from h w.nodes from to class f in (done.0, (answer.Ok, done.1))
+
+  -- the decision with the flight at its place
+  abbrev judged : Node → Node → Class → ℕ → Flight → Nodes × Outcome
+  judged from to class i f =
+      if is_ordered class && nat_lt 0 i then (w.nodes, (No NotFirst, []))
+      else if is_aged (table_at to w.nodes) f then (w.nodes, (No Aged, [])) else given from to class f
+
+  -- a flight on a leg, in its direction
+  on_leg : (d : Dir) (i : ℕ) (f : Flight) → slice_get (on w.links (leg d)) i ≡ Some f → IsPduOf h t d f ⊎ IsAckOf t w.nodes (other d) f
+      → Next (Step (leg d) i) (if is_aged (receiver_table d w.nodes) f then (w.nodes, (No Aged, []))
+        else (let done = air_taken h d (receiver_table d w.nodes) f in (with_receiver d w.nodes done.0, (answer.Ok, done.1))))
+  on_leg d i f at promise =
+      let taken' : Nodes × Outcome = (let done = air_taken h d (receiver_table d w.nodes) f in (with_receiver d w.nodes done.0, (answer.Ok, done.1))) in
+      cond_both (is_aged (receiver_table d w.nodes) f) (w.nodes, (No Aged, [])) taken' (Next (Step (leg d) i))
+      (λ old. next (Step (leg d) i) (w.nodes, (No Aged, [])) (elim promise [
+        | inl pdu ↦ aged_happened h policies t w sound d i f at pdu old
+        | inr ack ↦ absurd (let no : is_aged (receiver_table d w.nodes) f ≡ false = ap (is_aged (receiver_table d w.nodes)) ack.is in cc)
+      ]))
+      (λ young. next (Step (leg d) i) taken' (elim promise [
+        | inl pdu ↦ data_happened h policies t w sound d i f at pdu young
+        | inr ack ↦ acked d i at ack
+      ]))
+    where
+      acked : (d : Dir) (i : ℕ) → slice_get (on w.links (leg d)) i ≡ Some f → IsAckOf t w.nodes (other d) f
+          → Happened h policies t w (record { event = Step (leg d) i; answer = answer.Ok; lines = (air_taken h d (receiver_table d w.nodes) f).1 })
+            (with_receiver d w.nodes (air_taken h d (receiver_table d w.nodes) f).0)
+      acked Dl i at ack = ack_happened h policies t w sound Ul i f at ack
+      acked Ul i at ack = ack_happened h policies t w sound Dl i f at ack
+
+  -- a flight on a control link, which keeps its order
+  control_step : (l : LinkId) → l.class ≡ Ctl → (i : ℕ) (f : Flight) (told_by : Flight → Nodes × List Line) (table : Table)
+      → slice_get (on w.links l) i ≡ Some f → HasRecord (on w.links l)
+      → ((f : Flight) → slice_get (on w.links l) 0 ≡ Some f → Happened h policies t w (record { event = Step l 0; answer = answer.Ok; lines = (told_by f).1 }) (told_by f).0)
+      → Next (Step l i) (if nat_lt 0 i then (w.nodes, (No NotFirst, [])) else if is_aged table f then (w.nodes, (No Aged, [])) else ((told_by f).0, (answer.Ok, (told_by f).1)))
+  control_step l control i f told_by table at has happened =
+      let taken' : Nodes × Outcome = ((told_by f).0, (answer.Ok, (told_by f).1)) in
+      cond_both (nat_lt 0 i) (w.nodes, (No NotFirst, [])) _ (Next (Step l i))
+      (λ late. refuse_step l i NotFirst refl (sym (ap (step_answer t l i) (ap (λ (xs : List Flight). slice_get xs i) (sound.contents l) ∙ at)
+          ∙ cond-true (is_ordered l.class && nat_lt 0 i) _ _ (ap (λ k. is_ordered k && nat_lt 0 i) control ∙ late))))
+      (λ first.
+      let zero_is = first_place i first in
+      let at_0 : slice_get (on w.links l) 0 ≡ Some f = subst (λ k. slice_get (on w.links l) k ≡ Some f) zero_is at in
+      let young = young_record (on w.links l) f table has at_0 in
+      subst (Next (Step l i)) (sym (cond-false (is_aged table f) (w.nodes, (No Aged, [])) taken' young))
+      (subst (λ k. Next (Step l k) taken') (sym zero_is) (next (Step l 0) taken' (happened f at_0))))
+
+  step_at : (from to : Node) (class : Class) (i : ℕ) (f : Flight) → slice_get (on w.links (link from to class)) i ≡ Some f → Promise h t w.nodes from to class f
+      → Next (Step (link from to class) i) (judged from to class i f)
+  step_at M T Air i f at promise = on_leg Dl i f at promise
+  step_at T M Air i f at promise = on_leg Ul i f at promise
+  step_at M T Ctl i f at promise = control_step mt_ctl refl i f (λ f. told_terminal w.nodes f) w.nodes.terminal at (records sound.phase).0 (λ f at. told_terminal_happened h policies t w sound f at)
+  step_at T M Ctl i f at promise = control_step tm_ctl refl i f (λ f. told_master w.nodes f) w.nodes.master at (records sound.phase).1 (λ f at. told_master_happened h policies t w sound f at)
+  step_at M T Feed i f at promise = absurd promise
+  step_at M T Tun i f at promise = absurd promise
+  step_at T M Feed i f at promise = absurd promise
+  step_at T M Tun i f at promise = absurd promise
+  step_at T T class i f at promise = absurd promise
+  step_at T A class i f at promise = absurd promise
+  step_at T B class i f at promise = absurd promise
+  step_at M M class i f at promise = absurd promise
+  step_at M A class i f at promise = absurd promise
+  step_at M B class i f at promise = absurd promise
+  step_at A to class i f at promise = absurd promise
+  step_at B to class i f at promise = absurd promise
