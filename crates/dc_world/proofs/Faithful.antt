@@ -1,7 +1,7 @@
 -- The run theorem: the transcript of every run meets the claims.
 use Rattle.std.proofs.Common.{ℕ, zero, suc, ◌≡◌, ◌+◌, ◌-◌, ◌^◌, ◌<◌, ◌≤◌, ◌==◌, ◌&&◌, ◌⊎◌, ◌++◌, List, [], ◌∷◌, Option, Some, None, Bool, true, false, length, slice_get, refl, sym, ap, ◌∙◌, subst, arith, inl, inr, append_assoc}
 use Rattle.std.specs.Prelude.{if◌then◌else◌, nat_lt, nat_le, not, is_some, Contains, Ok, Err, Result, replicate, slice_index_or, ⊤}
-use Rattle.std.specs.List.{AllByRecursion}
+use Rattle.std.specs.List.{AllByRecursion, find}
 use Rattle.std.specs.Option.{option_map}
 use Rattle.std.proofs.lemmas.List.{append-nil, set-get_or}
 use Rattle.std.proofs.lemmas.Option.{same_Some, slice_get_within, slice_get_past}
@@ -29,13 +29,14 @@ use Rattle.dc_base.specs.declared.events.Header.{Header}
 use Rattle.dc_base.specs.declared.events.Event.{Event}
 use Rattle.dc_base.specs.declared.events.Event.TheVariants.{Bearer, Reshape, Remove, Add, Change, Release, RekeySecond, RekeyMaster, Recover, Report, Deny, Ask, ScgFail, Submit, Step, Lose, Again}
 use Rattle.dc_base.specs.declared.events.Line.{Line}
+use Rattle.dc_base.specs.declared.events.Line.TheVariants as line
 use Rattle.pdcp_pdu.specs.DataPdu.{IsPayload}
 use Rattle.pdcp_tx.specs.Sender.{Sender, low}
 use Rattle.pdcp_tx.specs.Sending.{taken}
 use Rattle.pdcp_tx.specs.declared.tx.TxErr.{TxErr}
 use Rattle.pdcp_tx.specs.declared.tx.TxErr.TheVariants as refused
 use Rattle.transcript.specs.Transcript.{Entry}
-use Rattle.transcript.specs.Content.{content, link, mt_ctl, tm_ctl, place_taken}
+use Rattle.transcript.specs.Content.{content, link, link_number, all_links, first_loaded, mt_ctl, tm_ctl, place_taken}
 use Rattle.transcript.specs.Bearers.{Established, established, latest, open_command, unless_opening, is_opening, at_master, at_terminal, at_submitter, submitted, told}
 use Rattle.transcript.specs.Claims.{is_mm, is_ordered, is_tunnel, bearer_answer, submit_answer, step_answer, tunnel_answer, due_answer, HasCause, IsDataFlight, IsOneUse, IsFaithful}
 use Rattle.transcript.proofs.OnEach.{each_at}
@@ -44,7 +45,7 @@ use Rattle.dc_world.specs.Entities.{Entities, Table, bearer_in, with_bearer, no_
 use Rattle.dc_world.specs.Plane.{Outcome, leg, other, data_flight, numbered_as, air_taken, is_aged}
 use Rattle.dc_world.specs.Plane.{submitted as submitted_in}
 use Rattle.dc_world.specs.Control.{Nodes, new_nodes, set_up, commanded, told_terminal, told_master, is_open}
-use Rattle.dc_world.specs.Links.{Links, on, moved, no_links}
+use Rattle.dc_world.specs.Links.{Links, on, moved, no_links, first_nonempty}
 use Rattle.dc_world.specs.Run.{WorldState, new_world, IsGood, is_built, unless_open, table_at, taken_from, stepped, tunnelled, tunnelled_at, decided, happen, entry_of, world_after, entries_from}
 use Rattle.dc_world.proofs.Lane.{low_is}
 use Rattle.dc_world.proofs.Sound.{or_fresh, half, sender_table, receiver_table, IsPduOf, IsAckOf, IsServed, IsTabled, Promise, Phase, idle, Happened, Sound}
@@ -56,6 +57,14 @@ use Rattle.dc_world.proofs.SettingUp.{set_up_happened, told_terminal_happened, t
 use Rattle.dc_world.proofs.Submitting.{submitted_happened}
 use Rattle.dc_world.proofs.Receiving.{data_happened, aged_happened}
 use Rattle.dc_world.proofs.Acking.{ack_happened}
+
+past_end : {X : Type 0} (xs : List X) (i : ℕ) → slice_get xs i ≡ None → length xs ≤ i
+past_end [] i none = omega arith
+past_end (x ∷ xs) zero none = absurd cc
+past_end (x ∷ xs) (suc i) none = omega (arith, past_end xs i none)
+
+is_le : (m n : ℕ) → m ≤ n → nat_le m n ≡ true
+is_le m n less = grind (arith, nat_tests)
 
 -- a submission is taken, or refused for a full window or for want of a COUNT
 taken_cases : (Q : Result (Sender × ℕ) TxErr → Type 0) (tx : Sender) (p : List ℕ)
@@ -322,3 +331,159 @@ module _ (h : Header) (policies : ℕ) (t : List Entry) (w : WorldState) (sound 
   step_at M B class i f at promise = absurd promise
   step_at A to class i f at promise = absurd promise
   step_at B to class i f at promise = absurd promise
+
+  -- a step, with the flight at its place
+  step_with : (l : LinkId) (i : ℕ) (o : Option Flight) → slice_get (on w.links l) i ≡ o → Next (Step l i) (stepped (record w { header = h }) l i o)
+  step_with l i None at =
+      refuse_step l i NoFlight refl (sym (ap (step_answer t l i) (ap (λ (xs : List Flight). slice_get xs i) (sound.contents l) ∙ at)))
+  step_with l i (Some f) at =
+      step_at l.from l.to l.class i f at (each_at (Promise h t w.nodes l.from l.to l.class) (on w.links l) i f (sound.promises l) at)
+
+  -- ---- a loss, or a repeat
+
+  tunnel_with : (e : Event) (l : LinkId) (i : ℕ) (lines : Flight → List Line) (o : Option Flight) → slice_get (on w.links l) i ≡ o
+      → ((why : Refusal) → No why ≡ tunnel_answer t l i → Next e (w.nodes, (No why, [])))
+      → Next e (tunnelled (record w { header = h }) l o lines)
+  tunnel_with e l i lines o at refuse =
+      cond_both (is_tunnel l.class) (tunnelled_at (record w { header = h }) o lines) (w.nodes, (No NotTunnel, [])) (Next e)
+      (λ tunnel. in_tunnel o at tunnel)
+      (λ other. refuse NotTunnel (sym (cond-true (not (is_tunnel l.class)) _ _ (ap not other))))
+    where
+      tun_is : (c : Class) → is_tunnel c ≡ true → c ≡ Tun
+      tun_is Ctl e = absurd cc
+      tun_is Feed e = absurd cc
+      tun_is Air e = absurd cc
+      tun_is Tun e = refl
+
+      in_tunnel : (o : Option Flight) → slice_get (on w.links l) i ≡ o → is_tunnel l.class ≡ true → Next e (tunnelled_at (record w { header = h }) o lines)
+      in_tunnel None at tunnel =
+          let past : nat_le (length (content l t)) i ≡ true =
+          ap (λ (xs : List Flight). nat_le (length xs) i) (sound.contents l) ∙ is_le (length (on w.links l)) i (past_end (on w.links l) i at) in
+          refuse NoFlight (sym (cond-false (not (is_tunnel l.class)) _ _ (ap not tunnel) ∙ cond-true _ _ _ past))
+      in_tunnel (Some f) at tunnel =
+          absurd (no_tunnel h t w.nodes l.from l.to f
+          (subst (λ c. Promise h t w.nodes l.from l.to c f) (tun_is l.class tunnel) (each_at (Promise h t w.nodes l.from l.to l.class) (on w.links l) i f (sound.promises l) at)))
+
+  -- ---- any event
+
+  decided_sound : (e : Event) → IsGood e → is_built e ≡ true → Next e (decided policies (record w { header = h }) e)
+  decided_sound (Bearer id n first shape threshold policy) good built = bearer_sound id n first shape threshold policy good.0 good.1
+  decided_sound (Submit id Dl payload) good built = submit_any id Dl payload good (serving Dl id) refl
+  decided_sound (Submit id Ul payload) good built = submit_any id Ul payload good (serving Ul id) refl
+  decided_sound (Step l i) good built = step_with l i (slice_get (on w.links l) i) refl
+  decided_sound (Lose l i) good built = tunnel_with (Lose l i) l i (λ f. []) (slice_get (on w.links l) i) refl
+      (λ why due. next (Lose l i) (w.nodes, (No why, [])) (refused_happened h policies t w sound (Lose l i) why (λ g. refl) refl (λ b d c. refl) refl refl due))
+  decided_sound (Again l i) good built = tunnel_with (Again l i) l i (λ f. line.Send l f ∷ []) (slice_get (on w.links l) i) refl
+      (λ why due. next (Again l i) (w.nodes, (No why, [])) (refused_happened h policies t w sound (Again l i) why (λ g. refl) refl (λ b d c. refl) refl refl due))
+  decided_sound (Reshape id shape) good built = absurd cc
+  decided_sound (Remove id) good built = absurd cc
+  decided_sound (Add node) good built = absurd cc
+  decided_sound Change good built = absurd cc
+  decided_sound Release good built = absurd cc
+  decided_sound RekeySecond good built = absurd cc
+  decided_sound (RekeyMaster root) good built = absurd cc
+  decided_sound (Recover id) good built = absurd cc
+  decided_sound (Report node id) good built = absurd cc
+  decided_sound (Deny node state) good built = absurd cc
+  decided_sound (Ask node what) good built = absurd cc
+  decided_sound ScgFail good built = absurd cc
+
+-- the same with the world as it is
+event_sound : (h : Header) (policies : ℕ) (t : List Entry) (w : WorldState) → Sound h policies t w → (e : Event) → IsGood e → is_built e ≡ true
+    → Sound h policies (t ++ entry_of policies w e ∷ []) (happen policies w e).0
+event_sound h policies t w sound e good built =
+    let same : record w { header = h } ≡ w = ap (λ (k : Header). record w { header = k }) (sym sound.header) in
+    subst (λ v. Sound h policies (t ++ entry_of policies v e ∷ []) (happen policies v e).0) same
+    (decided_sound h policies t (record w { header = h }) (subst (Sound h policies t) (sym same) sound) e good built)
+
+-- ---- a run
+
+-- each of the events may be given to a world
+abbrev pub AreGood : List Event → Type 0
+AreGood es = AllByRecursion (λ e. IsGood e × (is_built e ≡ true)) es
+
+run_sound : (h : Header) (policies : ℕ) (t : List Entry) (w : WorldState) (es : List Event) → AreGood es → Sound h policies t w
+    → Sound h policies (t ++ entries_from policies w es) (world_after policies w es)
+run_sound h policies t w [] good sound = subst (λ u. Sound h policies u w) (sym (append-nil t)) sound
+run_sound h policies t w (e ∷ es) good sound =
+    subst (λ u. Sound h policies u (world_after policies (happen policies w e).0 es)) (append_assoc t (entry_of policies w e ∷ []) (entries_from policies (happen policies w e).0 es))
+    (run_sound h policies (t ++ entry_of policies w e ∷ []) (happen policies w e).0 es good.1 (event_sound h policies t w sound e good.0.0 good.0.1))
+
+-- nothing stands in a list of nothing
+none_there : {X : Type 0} (n i : ℕ) (x : X) → slice_index_or (replicate n x) i x ≡ x
+none_there zero i x = refl
+none_there (suc n) zero x = refl
+none_there (suc n) (suc i) x = none_there n i x
+
+new_sound : (h : Header) (policies : ℕ) → Sound h policies [] (new_world h)
+new_sound h policies = record {
+  header = refl;
+  long = refl;
+  contents = λ l. sym (none_there 64 (link_number l) []);
+  tables = record {
+    master_long = refl;
+    terminal_long = refl;
+    master_is = λ id. ap (option_map (λ (e : Entities). e.bearer)) (none_there 33 id None);
+    terminal_is = λ id. ap (option_map (λ (e : Entities). e.bearer)) (none_there 33 id None);
+    drawn_is = refl;
+    busy_is = refl;
+    once = λ b (k, less, is). absurd (omega arith);
+    ranged = λ b (k, less, is). absurd (omega arith);
+    keyed = λ b (k, less, is). absurd (omega arith);
+  };
+  phase = idle refl refl refl (λ b (k, less, is) none. absurd (omega arith));
+  served = λ b d (k, less, is). absurd (omega arith);
+  promises = λ l. subst (AllByRecursion (Promise h [] new_nodes l.from l.to l.class)) (sym (none_there 64 (link_number l) [])) tt;
+  none_sent = λ l id g num later. refl;
+  claims = tt;
+  causes = tt;
+  licence = tt;
+}
+
+all_sound : (policies : ℕ) (h : Header) (es : List Event) → AreGood es → Sound h policies (entries_from policies (new_world h) es) (world_after policies (new_world h) es)
+all_sound policies h es good = run_sound h policies [] (new_world h) es good (new_sound h policies)
+
+-- the bearer of a data PDU was established
+of_generation : (t : List Entry) (b : Established) (d : Dir) (x : LinkId × Flight) → IsDataFlight t b d x → (c : Established) × Contains (established t) c × (c.id ≡ b.id) × (c.g ≡ b.g)
+of_generation t b d (l, flight.Air id g num tag pdu) is = generation_there t b g is.2
+of_generation t b d (l, flight.Ack id g num) is = absurd is
+of_generation t b d (l, flight.Tun tag packet) is = absurd is
+of_generation t b d (l, flight.Sdu id g sdu) is = absurd is
+of_generation t b d (l, flight.End id g) is = absurd is
+of_generation t b d (l, flight.Told id g count) is = absurd is
+of_generation t b d (l, flight.Ctl r) is = absurd is
+
+-- an identity is established once, so no key of it is used by two establishments
+one_use : (t : List Entry) → IsOnce (established t) → IsOneUse t
+one_use t once b c d x y sent_x sent_y is_x is_y same key =
+    let (b', b_there, b_id, b_g) = of_generation t b d x is_x in
+    let (c', c_there, c_id, c_g) = of_generation t c d y is_y in
+    sym b_g ∙ ap (λ (e : Established). e.g) (same_bearer (established t) b' c' once b_there c_there (b_id ∙ same ∙ sym c_id)) ∙ c_g
+
+-- the run theorem
+pub run_faithful : (policies : ℕ) (h : Header) (es : List Event) → AreGood es → IsFaithful h policies (entries_from policies (new_world h) es)
+run_faithful policies h es good =
+    let sound = all_sound policies h es good in
+    record {
+      bearers = sound.claims;
+      causes = sound.causes;
+      licence = sound.licence;
+      one_use = one_use (entries_from policies (new_world h) es) sound.tables.once;
+    }
+
+-- what stands on a link is what the transcript says
+pub content_is : (policies : ℕ) (h : Header) (es : List Event) → AreGood es → (l : LinkId)
+    → content l (entries_from policies (new_world h) es) ≡ on (world_after policies (new_world h) es).links l
+content_is policies h es good l = (all_sound policies h es good).contents l
+
+-- and so is the first link on which something does
+pub first_loaded_is : (policies : ℕ) (h : Header) (es : List Event) → AreGood es
+    → first_loaded (entries_from policies (new_world h) es) ≡ first_nonempty (world_after policies (new_world h) es).links
+first_loaded_is policies h es good =
+    find_same (λ l. content l (entries_from policies (new_world h) es)) (on (world_after policies (new_world h) es).links) (content_is policies h es good) all_links
+  where
+    find_same : (f g : LinkId → List Flight) → ((l : LinkId) → f l ≡ g l) → (ls : List LinkId) → find (λ l. nat_lt 0 (length (f l))) ls ≡ find (λ l. nat_lt 0 (length (g l))) ls
+    find_same f g same [] = refl
+    find_same f g same (l ∷ ls) =
+        ap (λ (fs : List Flight). if nat_lt 0 (length fs) then Some l else find (λ k. nat_lt 0 (length (f k))) ls) (same l)
+        ∙ ap (λ o. if nat_lt 0 (length (g l)) then Some l else o) (find_same f g same ls)
