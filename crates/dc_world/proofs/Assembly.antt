@@ -109,10 +109,11 @@ served_prefix : (t : List Entry) (s : Nodes) (links : Links) (b : Established) (
     → (rest : List (ℕ × List ℕ)) × (numbered b.first (submitted b d t) ≡ handed b d t ++ rest)
 served_prefix t s links b d served =
     let k = (half b (receiver_table d s)).rx.deliv - b.first in
-    let S = submitted b d t in
-    (numbered (b.first + length (take k S)) (drop k S),
-    ap (numbered b.first) (sym (take-append-drop k S)) ∙ numbered-append b.first (take k S) (drop k S)
-    ∙ ap (λ xs. xs ++ numbered (b.first + length (take k S)) (drop k S)) (sym served.handed_is))
+    let S = submitted b d t in (
+      numbered (b.first + length (take k S)) (drop k S),
+      ap (numbered b.first) (sym (take-append-drop k S)) ∙ numbered-append b.first (take k S) (drop k S)
+          ∙ ap (λ xs. xs ++ numbered (b.first + length (take k S)) (drop k S)) (sym served.handed_is),
+    )
 
 served_complete : (t : List Entry) (s : Nodes) (links : Links) (b : Established) (d : Dir) → IsServed t s links b d → on links (leg d) ≡ []
     → handed b d t ≡ numbered b.first (submitted b d t)

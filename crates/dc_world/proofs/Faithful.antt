@@ -255,7 +255,7 @@ module _ (h : Header) (policies : ℕ) (t : List Entry) (w : WorldState) (sound 
 
   records : Phase h t w.nodes w.links → HasRecord (on w.links mt_ctl) × HasRecord (on w.links tm_ctl)
   records (idle free reconf rcomp all) = (inl reconf, inl rcomp)
-  records (phase_commanded b there shape threshold policy busy reconf rcomp unused others) = (inr (Reconf _ h.root, reconf), inl rcomp)
+  records (phase_commanded b there shape threshold policy busy reconf rcomp unused lacks others) = (inr (Reconf _ h.root, reconf), inl rcomp)
   records (phase_answered b there busy reconf rcomp all) = (inl reconf, inr (Rcomp b.g, rcomp))
 
   young_record : (fs : List Flight) (f : Flight) (table : Table) → HasRecord fs → slice_get fs 0 ≡ Some f → is_aged table f ≡ false
@@ -277,7 +277,7 @@ module _ (h : Header) (policies : ℕ) (t : List Entry) (w : WorldState) (sound 
   -- a flight on a leg, in its direction
   on_leg : (d : Dir) (i : ℕ) (f : Flight) → slice_get (on w.links (leg d)) i ≡ Some f → IsPduOf h t d f ⊎ IsAckOf t w.nodes (other d) f
       → Next (Step (leg d) i) (if is_aged (receiver_table d w.nodes) f then (w.nodes, (No Aged, []))
-        else (let done = air_taken h d (receiver_table d w.nodes) f in (with_receiver d w.nodes done.0, (answer.Ok, done.1))))
+      else (let done = air_taken h d (receiver_table d w.nodes) f in (with_receiver d w.nodes done.0, (answer.Ok, done.1))))
   on_leg d i f at promise =
       let taken' : Nodes × Outcome = (let done = air_taken h d (receiver_table d w.nodes) f in (with_receiver d w.nodes done.0, (answer.Ok, done.1))) in
       cond_both (is_aged (receiver_table d w.nodes) f) (w.nodes, (No Aged, [])) taken' (Next (Step (leg d) i))
@@ -292,7 +292,7 @@ module _ (h : Header) (policies : ℕ) (t : List Entry) (w : WorldState) (sound 
     where
       acked : (d : Dir) (i : ℕ) → slice_get (on w.links (leg d)) i ≡ Some f → IsAckOf t w.nodes (other d) f
           → Happened h policies t w (record { event = Step (leg d) i; answer = answer.Ok; lines = (air_taken h d (receiver_table d w.nodes) f).1 })
-            (with_receiver d w.nodes (air_taken h d (receiver_table d w.nodes) f).0)
+          (with_receiver d w.nodes (air_taken h d (receiver_table d w.nodes) f).0)
       acked Dl i at ack = ack_happened h policies t w sound Ul i f at ack
       acked Ul i at ack = ack_happened h policies t w sound Dl i f at ack
 
@@ -305,7 +305,7 @@ module _ (h : Header) (policies : ℕ) (t : List Entry) (w : WorldState) (sound 
       let taken' : Nodes × Outcome = ((told_by f).0, (answer.Ok, (told_by f).1)) in
       cond_both (nat_lt 0 i) (w.nodes, (No NotFirst, [])) _ (Next (Step l i))
       (λ late. refuse_step l i NotFirst refl (sym (ap (step_answer t l i) (ap (λ (xs : List Flight). slice_get xs i) (sound.contents l) ∙ at)
-          ∙ cond-true (is_ordered l.class && nat_lt 0 i) _ _ (ap (λ k. is_ordered k && nat_lt 0 i) control ∙ late))))
+      ∙ cond-true (is_ordered l.class && nat_lt 0 i) _ _ (ap (λ k. is_ordered k && nat_lt 0 i) control ∙ late))))
       (λ first.
       let zero_is = first_place i first in
       let at_0 : slice_get (on w.links l) 0 ≡ Some f = subst (λ k. slice_get (on w.links l) k ≡ Some f) zero_is at in
@@ -425,6 +425,7 @@ new_sound h policies = record {
     terminal_long = refl;
     master_is = λ id. ap (option_map (λ (e : Entities). e.bearer)) (none_there 33 id None);
     terminal_is = λ id. ap (option_map (λ (e : Entities). e.bearer)) (none_there 33 id None);
+    set_is = λ id. ap (λ (o : Option Entities). is_some o) (sym (none_there 33 id None));
     drawn_is = refl;
     busy_is = refl;
     once = λ b (k, less, is). absurd (omega arith);

@@ -46,6 +46,7 @@ module _ (t : List Entry) (e : Entry) (undrawn : plan_drawn t e ≡ []) where
     terminal_is = λ id. tables.terminal_is id
         ∙ ap (λ has. if has then latest id (established t) else None) (sym (is_set-next id t e ∙ no_set id (is_set id t)))
         ∙ ap (λ bs. if is_set id (t ++ e ∷ []) then latest id bs else None) (sym established_same);
+    set_is = λ id. is_set-next id t e ∙ no_set id (is_set id t) ∙ tables.set_is id;
     drawn_is = tables.drawn_is ∙ sym (generation-next t e ∙ ap (λ draws. generation t + (if draws then 1 else 0)) no_draw ∙ add_none (generation t));
     busy_is = tables.busy_is ∙ sym (open_command-next t e
         ∙ ap (λ draws. fold ends_command (if draws then Some (generation t + 1) else open_command t) e.lines) no_draw ∙ no_end (open_command t));
@@ -64,9 +65,9 @@ pub phase_same : (h : Header) (t t' : List Entry) (s : Nodes) (links links' : Li
     → on links' mt_ctl ≡ on links mt_ctl → on links' tm_ctl ≡ on links tm_ctl → Phase h t s links → Phase h t' s links'
 phase_same h t t' s links links' same submits mt tm (idle free no_reconf no_rcomp all) =
     idle free (mt ∙ no_reconf) (tm ∙ no_rcomp) (λ b there. all b (subst (λ bs. Contains bs b) same there))
-phase_same h t t' s links links' same submits mt tm (commanded b there shape threshold policy busy reconf no_rcomp unused others) =
+phase_same h t t' s links links' same submits mt tm (commanded b there shape threshold policy busy reconf no_rcomp unused lacks others) =
     commanded b (subst (λ bs. Contains bs b) (sym same) there) shape threshold policy busy (mt ∙ reconf) (tm ∙ no_rcomp)
-    (λ d. submits b d busy there ∙ unused d) (λ c is. others c (subst (λ bs. Contains bs c) same is))
+    (λ d. submits b d busy there ∙ unused d) lacks (λ c is. others c (subst (λ bs. Contains bs c) same is))
 phase_same h t t' s links links' same submits mt tm (answered b there busy no_reconf rcomp all) =
     answered b (subst (λ bs. Contains bs b) (sym same) there) busy (mt ∙ no_reconf) (tm ∙ rcomp) (λ c is. all c (subst (λ bs. Contains bs c) same is))
 

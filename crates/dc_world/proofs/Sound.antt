@@ -1,6 +1,6 @@
 -- What every event keeps: of each bearer in each direction, of each flight, and of the whole run.
 use Rattle.std.proofs.Common.{ℕ, ◌≡◌, ◌+◌, ◌-◌, ◌^◌, ◌<◌, ◌≤◌, ◌⊎◌, ◌++◌, true, false, List, [], ◌∷◌, Option, Some, None, length, take, slice_get, refl, sym, ap, ◌∙◌, subst, arith, inl, inr}
-use Rattle.std.specs.Prelude.{if◌then◌else◌, nat_lt, Contains}
+use Rattle.std.specs.Prelude.{if◌then◌else◌, nat_lt, Contains, is_some}
 use Rattle.std.specs.List.{AllByRecursion, flat_map}
 use Rattle.std.specs.Option.{option_map}
 use Rattle.dc_base.specs.declared.nodes.Class.{Class}
@@ -20,7 +20,7 @@ use Rattle.pdcp_tx.specs.Sender.{low}
 use Rattle.pdcp_rx.specs.Receiver.{Received}
 use Rattle.transcript.specs.Transcript.{Entry, sends, Each, SomeEntry}
 use Rattle.transcript.specs.Content.{content, content_after, mt_ctl, tm_ctl, place_taken}
-use Rattle.transcript.specs.Bearers.{Established, established, latest, generation, plans, key_in, master_key, submitted, submission, handed, ups, numbered, confirmed, confirms, tag_of, tags_sent, frees, told, open_command, at_terminal, least_but}
+use Rattle.transcript.specs.Bearers.{Established, established, latest, generation, plans, key_in, master_key, submitted, submission, handed, ups, numbered, confirmed, confirms, tag_of, tags_sent, frees, told, open_command, at_terminal, is_set, least_but}
 use Rattle.transcript.specs.Claims.{TakesData, KeepsAll, IsKept, Protects, Carried, HasCause, IsLicensed}
 use Rattle.transcript.proofs.OnEach.{each_append, each_weaker}
 use Rattle.transcript.proofs.Establishing.{IsOnce}
@@ -100,7 +100,7 @@ pub data Phase (h : Header) (t : List Entry) (s : Nodes) (links : Links) : Type 
   idle : s.busy ≡ None → on links mt_ctl ≡ [] → on links tm_ctl ≡ [] → AllConfigured t s → Phase h t s links
   commanded : (b : Established) → Contains (established t) b → (shape : Shape) (threshold policy : ℕ) → s.busy ≡ Some b.g
       → on links mt_ctl ≡ flight.Ctl (Reconf (plan_for b.g b.id b.n b.first shape threshold policy) h.root) ∷ [] → on links tm_ctl ≡ []
-      → ((d : Dir) → submitted b d t ≡ [])
+      → ((d : Dir) → submitted b d t ≡ []) → bearer_in s.terminal b.id ≡ None
       → ((c : Established) → Contains (established t) c → bearer_in s.terminal c.id ≡ None → c ≡ b) → Phase h t s links
   answered : (b : Established) → Contains (established t) b → s.busy ≡ Some b.g → on links mt_ctl ≡ [] → on links tm_ctl ≡ flight.Ctl (Rcomp b.g) ∷ []
       → AllConfigured t s → Phase h t s links
@@ -126,6 +126,7 @@ pub record IsTabled (t : List Entry) (s : Nodes) : Type 0 where
   pub terminal_long : length s.terminal ≡ 33
   pub master_is : (id : ℕ) → option_map (λ e. e.bearer) (bearer_in s.master id) ≡ latest id (established t)
   pub terminal_is : (id : ℕ) → option_map (λ e. e.bearer) (bearer_in s.terminal id) ≡ at_terminal id t
+  pub set_is : (id : ℕ) → is_set id t ≡ is_some (bearer_in s.terminal id)
   pub drawn_is : s.drawn ≡ generation t
   pub busy_is : s.busy ≡ open_command t
   pub once : IsOnce (established t)

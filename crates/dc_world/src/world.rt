@@ -85,8 +85,7 @@ impl World {
     }
 
     /// The first link, in their order, on which a flight stands: `None` where all are empty.
-    pub fn first_nonempty(&self) -> Option<LinkId>
-    {
+    pub fn first_nonempty(&self) -> Option<LinkId> {
         let _ = &self.header;
         None
     }
