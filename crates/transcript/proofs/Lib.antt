@@ -1,2 +1,4 @@
 pub mod OnEach
+pub mod Lists
 pub mod Growing
+pub mod Establishing

@@ -1,10 +1,13 @@
 -- Bearers: when each was established, under which plans and keys, and what was submitted and handed up.
-use Rattle.std.specs.Prelude.{ℕ, ◌+◌, ◌==◌, ◌&&◌, nat_le, max, if◌then◌else◌, Bool, true, false, List, [], ◌∷◌, fold, filter, count_by, Option, Some, None}
-use Rattle.std.specs.List.{flat_map}
+use Rattle.std.specs.Prelude.{ℕ, zero, suc, ◌+◌, ◌==◌, ◌&&◌, ◌++◌, nat_le, if◌then◌else◌, Bool, true, false, List, [], ◌∷◌, length, fold, filter, count_by, Option, Some, None}
+use Rattle.std.specs.List.{flat_map, list_any}
 use Rattle.dc_base.specs.declared.numbers.SnLen.{SnLen}
 use Rattle.dc_base.specs.declared.nodes.Dir.{Dir}
 use Rattle.dc_base.specs.declared.nodes.Dir.TheVariants.{Ul, Dl}
 use Rattle.dc_base.specs.declared.nodes.KeyName.{KeyName}
+use Rattle.dc_base.specs.declared.nodes.LinkId.{LinkId}
+use Rattle.dc_base.specs.declared.flights.Flight.{Flight}
+use Rattle.dc_base.specs.declared.flights.Flight.TheVariants as flight
 use Rattle.dc_base.specs.declared.nodes.Side.TheVariants.{Master}
 use Rattle.dc_base.specs.declared.answers.Answer.{Answer}
 use Rattle.dc_base.specs.declared.answers.Answer.TheVariants.{Ok}
@@ -13,11 +16,12 @@ use Rattle.dc_base.specs.declared.events.Event.{Event}
 use Rattle.dc_base.specs.declared.events.Event.TheVariants.{Bearer, Submit}
 use Rattle.dc_base.specs.declared.events.Line.{Line}
 use Rattle.dc_base.specs.declared.events.Line.TheVariants as line
-use Rattle.dc_base.specs.declared.events.Note.TheVariants.{Up, Freed}
+use Rattle.dc_base.specs.declared.events.Note.TheVariants.{Set as SetNote, Unset as UnsetNote, Up, Freed, Done}
 use Rattle.dc_base.specs.declared.records.Item.{Item}
 use Rattle.dc_base.specs.declared.records.Item.TheVariants.{Set, Unset}
 use Rattle.dc_base.specs.declared.records.Plan.{Plan}
-use Rattle.transcript.specs.Transcript.{Entry, gathered}
+use Rattle.transcript.specs.Transcript.{Entry, sends, gathered}
+use Rattle.transcript.specs.Content.{is_same_link, is_to_master, reverse, given}
 
 -- one establishment of an identity, named by the generation that its command drew
 pub record Established : Type 0 where
@@ -142,6 +146,80 @@ freed_of b d _ = []
 abbrev pub frees : Established → Dir → List Entry → Entry → List ℕ
 frees b d before e = if is_latest b before then flat_map (freed_of b d) e.lines else []
 
--- where the submitter's window begins: the greatest value told, the first COUNT at the start
+-- what an entry makes of the command that is open, named by its generation: it opens the one that it draws, and `done` ends it
+abbrev pub ends_command : Option ℕ → Line → Option ℕ
+ends_command g (line.Note Done) = None
+ends_command g _ = g
+
+abbrev pub command_after : List Entry → Option ℕ → Entry → Option ℕ
+command_after before g e = fold ends_command (if is_draw e then Some (generation before + 1) else g) e.lines
+
+-- the generation of the command that is open, if one is
+abbrev pub open_from : List Entry → Option ℕ → List Entry → Option ℕ
+open_from before g [] = g
+open_from before g (e ∷ es) = open_from (before ++ e ∷ []) (command_after before g e) es
+
+abbrev pub open_command : List Entry → Option ℕ
+open_command t = open_from [] None t
+
+-- whether the bearer's own command is still open
+abbrev pub is_opening : Option ℕ → Established → Bool
+is_opening None b = false
+is_opening (Some g) b = g == b.g
+
+-- the bearer of an identity at the master: the latest, once its command is done
+abbrev pub unless_opening : Option ℕ → Option Established → Option Established
+unless_opening g None = None
+unless_opening g (Some b) = if is_opening g b then None else Some b
+
+abbrev pub at_master : ℕ → List Entry → Option Established
+at_master id t = unless_opening (open_command t) (latest id (established t))
+
+-- whether the terminal has the identity after a line: it took a generation of it, or dropped it
+abbrev pub has_after : ℕ → Bool → Line → Bool
+has_after id has (line.Note (SetNote i g)) = if i == id then true else has
+has_after id has (line.Note (UnsetNote i)) = if i == id then false else has
+has_after id has _ = has
+
+abbrev pub is_set : ℕ → List Entry → Bool
+is_set id t = fold (has_after id) false (flat_map (λ e. e.lines) t)
+
+-- the bearer of an identity at the terminal
+abbrev pub at_terminal : ℕ → List Entry → Option Established
+at_terminal id t = if is_set id t then latest id (established t) else None
+
+-- the bearer of an identity at the node that submits in this direction
+abbrev pub at_submitter : Dir → ℕ → List Entry → Option Established
+at_submitter Dl id t = at_master id t
+at_submitter Ul id t = at_terminal id t
+
+-- the tag of a data PDU that was sent on the link with this identity, generation and number
+abbrev pub tag_of : LinkId → ℕ → ℕ → ℕ → LinkId × Flight → List ℕ
+tag_of l id g num (k, flight.Air i h m (Some count) pdu) = if is_same_link l k && (i == id) && (h == g) && (m == num) then count ∷ [] else []
+tag_of l id g num _ = []
+
+abbrev pub tags_sent : LinkId → ℕ → ℕ → ℕ → List Entry → List ℕ
+tags_sent l id g num t = gathered (λ before e. flat_map (tag_of l id g num) (sends e.lines)) t
+
+-- the COUNTs that a flight confirms to the master: an ack of one of its own PDUs does
+abbrev pub confirmed_by : Established → List Entry → Option (LinkId × Flight) → List ℕ
+confirmed_by b before (Some (l, flight.Ack id g num)) =
+    if is_to_master l && (id == b.id) && is_generation_of b g before then tags_sent (reverse l) id g num before else []
+confirmed_by b before _ = []
+
+abbrev pub confirms : Established → Dir → List Entry → Entry → List ℕ
+confirms b Dl before e = confirmed_by b before (given before e)
+confirms b Ul before e = []
+
+-- the COUNTs of the bearer that are confirmed in this direction: in uplink status reports alone confirm
+abbrev pub confirmed : Established → Dir → List Entry → List ℕ
+confirmed b d t = gathered (confirms b d) t
+
+-- the least COUNT from c on that is none of these, among the first k
+abbrev pub least_but : List ℕ → ℕ → ℕ → ℕ
+least_but counts c zero = c
+least_but counts c (suc k) = if list_any (λ x. x == c) counts then least_but counts (c + 1) k else c
+
+-- where the submitter's window begins: the least COUNT that is not confirmed, or the next one
 abbrev pub told : Established → Dir → List Entry → ℕ
-told b d t = fold max b.first (gathered (frees b d) t)
+told b d t = least_but (confirmed b d t) b.first (length (submitted b d t))

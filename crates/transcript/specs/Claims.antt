@@ -1,5 +1,5 @@
 -- What is claimed of a transcript: each claim for one bearer and one direction, or for one entry.
-use Rattle.std.specs.Prelude.{◌≡◌, ℕ, ◌+◌, ◌-◌, ◌^◌, ◌≤◌, ◌==◌, ◌&&◌, nat_lt, nat_le, if◌then◌else◌, Bool, true, false, List, [], ◌∷◌, ◌++◌, length, slice_get, Contains, Option, Some, None, ⊤}
+use Rattle.std.specs.Prelude.{◌≡◌, ℕ, ◌+◌, ◌-◌, ◌^◌, ◌≤◌, ◌==◌, ◌&&◌, not, nat_lt, nat_le, if◌then◌else◌, Bool, true, false, List, [], ◌∷◌, ◌++◌, length, slice_get, Contains, Option, Some, None, is_some, ⊤}
 use Rattle.std.specs.List.{AllByRecursion}
 use Rattle.dc_base.specs.Count.{window, sn}
 use Rattle.dc_base.specs.declared.nodes.Node.{Node}
@@ -9,6 +9,9 @@ use Rattle.dc_base.specs.declared.nodes.Class.TheVariants.{Ctl, Feed, Air, Tun}
 use Rattle.dc_base.specs.declared.nodes.Dir.{Dir}
 use Rattle.dc_base.specs.declared.nodes.Dir.TheVariants.{Ul, Dl}
 use Rattle.dc_base.specs.declared.nodes.KeyName.{KeyName}
+use Rattle.dc_base.specs.declared.nodes.LegSet.{LegSet}
+use Rattle.dc_base.specs.declared.nodes.LegSet.TheVariants.{Mcg, Scg, Split}
+use Rattle.dc_base.specs.declared.nodes.Shape.{Shape}
 use Rattle.dc_base.specs.declared.nodes.LinkId.{LinkId}
 use Rattle.dc_base.specs.declared.flights.Flight.{Flight}
 use Rattle.dc_base.specs.declared.flights.Flight.TheVariants as flight
@@ -17,18 +20,18 @@ use Rattle.dc_base.specs.declared.records.Rec.TheVariants.{Reconf, Rcomp}
 use Rattle.dc_base.specs.declared.records.Plan.{Plan}
 use Rattle.dc_base.specs.declared.answers.Answer.{Answer}
 use Rattle.dc_base.specs.declared.answers.Answer.TheVariants.{Ok, No}
-use Rattle.dc_base.specs.declared.answers.Refusal.TheVariants.{NoBearer, NoFlight, NotFirst, Full, Exhausted}
+use Rattle.dc_base.specs.declared.answers.Refusal.TheVariants.{NoBearer, BearerThere, Busy, NoSecondary, NoFlight, NotFirst, NotTunnel, Aged, Full, Exhausted, NoPolicy}
 use Rattle.dc_base.specs.declared.events.Header.{Header}
 use Rattle.dc_base.specs.declared.events.Event.{Event}
-use Rattle.dc_base.specs.declared.events.Event.TheVariants.{Step, Submit}
+use Rattle.dc_base.specs.declared.events.Event.TheVariants.{Bearer, Submit, Step, Lose, Again}
 use Rattle.nea2.specs.Combined.{combined}
 use Rattle.nea2.specs.Keystream.{keystream}
 use Rattle.key_chain.specs.KeyNames.{upenc}
 use Rattle.pdcp_pdu.specs.DataPdu.{data_pdu}
 use Rattle.transcript.specs.Text.{is_data}
 use Rattle.transcript.specs.Transcript.{Entry, sends, Each, SomeEntry}
-use Rattle.transcript.specs.Content.{mt_ctl, tm_ctl, mt_air, reverse, direction, content, given}
-use Rattle.transcript.specs.Bearers.{Established, established, latest, is_generation_of, plans, plan_drawn, key_in, roots, submitted, ups, handed, numbered, told}
+use Rattle.transcript.specs.Content.{mt_ctl, tm_ctl, reverse, direction, content, given}
+use Rattle.transcript.specs.Bearers.{Established, established, latest, is_generation_of, plans, plan_drawn, key_in, roots, submitted, ups, handed, numbered, frees, told, open_command, at_master, at_submitter}
 
 -- the flight is a data PDU of the bearer in this direction
 abbrev pub IsDataFlight : List Entry → Established → Dir → LinkId × Flight → Type 0
@@ -89,12 +92,63 @@ abbrev pub Prefix : Established → Dir → List Entry → Entry → Type 0
 Prefix b d before e =
     let t = before ++ e ∷ [] in (rest : List (ℕ × List ℕ)) × (numbered b.first (submitted b d t) ≡ handed b d t ++ rest)
 
+-- the submitter's window moves exactly where the value told rises, and to it
+abbrev pub Frees : Established → Dir → List Entry → Entry → Type 0
+Frees b d before e =
+    let t = before ++ e ∷ [] in
+    frees b d before e ≡ (if nat_lt (told b d before) (told b d t) then told b d t ∷ [] else [])
+
+-- nothing stands on any link
+abbrev pub IsQuiet : List Entry → Type 0
+IsQuiet t = (l : LinkId) → content l t ≡ []
+
+-- all that was submitted so far was handed up, if the links are empty
+abbrev pub Complete : Established → Dir → List Entry → Entry → Type 0
+Complete b d before e =
+    let t = before ++ e ∷ [] in IsQuiet t → handed b d t ≡ numbered b.first (submitted b d t)
+
+-- what is claimed of a bearer, in one direction, at each entry from its establishment on
+pub record IsKept (h : Header) (b : Established) (d : Dir) (before : List Entry) (e : Entry) : Type 0 where
+  pub protects : Protects h b d before e
+  pub carried : Carried b d before e
+  pub prefix : Prefix b d before e
+  pub frees : Frees b d before e
+  pub complete : Complete b d before e
+
+-- and so of every bearer
+abbrev pub KeepsAll : Header → List Entry → Entry → Type 0
+KeepsAll h before e = (b : Established) (d : Dir) → Contains (established (before ++ e ∷ [])) b → IsKept h b d before e
+
 -- whether the link keeps its order
 abbrev pub is_ordered : Class → Bool
 is_ordered Ctl = true
 is_ordered Feed = true
 is_ordered Air = false
 is_ordered Tun = false
+
+-- whether the link may lose flights and repeat them
+abbrev pub is_tunnel : Class → Bool
+is_tunnel Tun = true
+is_tunnel _ = false
+
+-- whether the master's cell group has the only leg
+abbrev pub is_mcg : LegSet → Bool
+is_mcg Mcg = true
+is_mcg Scg = false
+is_mcg (Split primary) = false
+
+-- whether the shape has its anchor and its only leg at the master: so it needs no secondary
+abbrev pub is_mm : Shape → Bool
+is_mm shape = not shape.at_second && is_mcg shape.legs
+
+-- the answer that a new bearer is due where there are so many policies; there is no secondary
+abbrev pub bearer_answer : ℕ → List Entry → ℕ → Shape → ℕ → Answer
+bearer_answer policies before id shape policy =
+    if is_some (open_command before) then No Busy
+    else if is_some (at_master id before) then No BearerThere
+    else if not (is_mm shape) then No NoSecondary
+    else if nat_le policies policy then No NoPolicy
+    else Ok
 
 -- the answer that a submission to this bearer is due
 abbrev pub submit_answer : Dir → List Entry → Option Established → Answer
@@ -103,16 +157,39 @@ submit_answer d before (Some b) =
     let next = b.first + length (submitted b d before) in
     if nat_le (told b d before + window b.n) next then No Full else if next == 2 ^ 32 - 1 then No Exhausted else Ok
 
+-- whether the COUNT of this generation is more than a window behind what the bearer handed up
+abbrev pub is_behind : List Entry → Dir → ℕ → ℕ → Option Established → Bool
+is_behind before d g count None = false
+is_behind before d g count (Some b) = (b.g == g) && nat_lt (count + window b.n) (b.first + length (handed b d before))
+
+-- whether a flight on a link is aged
+abbrev pub is_aged : List Entry → LinkId × Flight → Bool
+is_aged before (l, flight.Air id g num (Some count) pdu) = is_data pdu && is_behind before (direction l) g count (latest id (established before))
+is_aged before _ = false
+
+-- the answer that a step is due, with the flight at its place
+abbrev pub step_answer : List Entry → LinkId → ℕ → Option Flight → Answer
+step_answer before l i None = No NoFlight
+step_answer before l i (Some f) =
+    if is_ordered l.class && nat_lt 0 i then No NotFirst else if is_aged before (l, f) then No Aged else Ok
+
+-- the answer that a loss or a repeat is due
+abbrev pub tunnel_answer : List Entry → LinkId → ℕ → Answer
+tunnel_answer before l i =
+    if not (is_tunnel l.class) then No NotTunnel else if nat_le (length (content l before)) i then No NoFlight else Ok
+
 -- the answer that an event is due
-abbrev pub due_answer : List Entry → Event → Answer
-due_answer before (Step l i) =
-    if nat_le (length (content l before)) i then No NoFlight else if is_ordered l.class && nat_lt 0 i then No NotFirst else Ok
-due_answer before (Submit id d sdu) = submit_answer d before (latest id (established before))
-due_answer before _ = Ok
+abbrev pub due_answer : ℕ → List Entry → Event → Answer
+due_answer policies before (Bearer id n first shape threshold policy) = bearer_answer policies before id shape policy
+due_answer policies before (Submit id d sdu) = submit_answer d before (at_submitter d id before)
+due_answer policies before (Step l i) = step_answer before l i (slice_get (content l before) i)
+due_answer policies before (Lose l i) = tunnel_answer before l i
+due_answer policies before (Again l i) = tunnel_answer before l i
+due_answer policies before _ = Ok
 
 -- each event has the answer that it is due
-abbrev pub HasCause : List Entry → Entry → Type 0
-HasCause before e = e.answer ≡ due_answer before e.event
+abbrev pub HasCause : ℕ → List Entry → Entry → Type 0
+HasCause policies before e = e.answer ≡ due_answer policies before e.event
 
 -- an ack is sent for the PDU just taken, with its identity, generation and number, the other way
 pub record Acknowledges (before : List Entry) (e : Entry) (l : LinkId) (id g num : ℕ) : Type 0 where
@@ -123,12 +200,13 @@ pub record Acknowledges (before : List Entry) (e : Entry) (l : LinkId) (id g num
   pub is_given : given before e ≡ Some (from, flight.Air id g num tag pdu)
 
 -- a data PDU is sent at the submission of its payload
-pub record FirstSent (before : List Entry) (e : Entry) (l : LinkId) (id : ℕ) (tag : Option ℕ) : Type 0 where
+pub record FirstSent (before : List Entry) (e : Entry) (l : LinkId) (id g : ℕ) (tag : Option ℕ) : Type 0 where
   pub sdu : List ℕ
   pub submits : e.event ≡ Submit id (direction l) sdu
   pub accepted : e.answer ≡ Ok
   pub bearer : Established
   pub of_bearer : latest id (established before) ≡ Some bearer
+  pub of_generation : is_generation_of bearer g before ≡ true
   pub tagged : tag ≡ Some (bearer.first + length (submitted bearer (direction l) before))
 
 -- a reconfiguration carries the plan that the entry draws, and the octets of the current root
@@ -153,7 +231,7 @@ IsReasonForRecord h before e l _ = ⊥
 
 -- the reason in its own event for which a flight is sent
 abbrev pub IsReason : Header → List Entry → Entry → LinkId × Flight → Type 0
-IsReason h before e (l, flight.Air id g num tag pdu) = (is_data pdu ≡ true) × FirstSent before e l id tag
+IsReason h before e (l, flight.Air id g num tag pdu) = (is_data pdu ≡ true) × FirstSent before e l id g tag
 IsReason h before e (l, flight.Ack id g num) = Acknowledges before e l id g num
 IsReason h before e (l, flight.Ctl r) = IsReasonForRecord h before e l r
 IsReason h before e _ = ⊥
@@ -163,15 +241,23 @@ pub record IsLicensed (h : Header) (before : List Entry) (e : Entry) : Type 0 wh
   pub reasons : AllByRecursion (IsReason h before e) (sends e.lines)
   pub one : length (sends e.lines) ≤ 1
 
--- all that was submitted in downlink was handed up, once nothing stands on the air link to the terminal
-abbrev pub IsComplete : Established → List Entry → Type 0
-IsComplete b t = content mt_air t ≡ [] → handed b Dl t ≡ numbered b.first (submitted b Dl t)
+-- the flight was sent
+abbrev pub IsSentIn : List Entry → LinkId × Flight → Type 0
+IsSentIn t s = SomeEntry (λ before e. Contains (sends e.lines) s) t
 
--- all claims of a transcript
-pub record IsFaithful (h : Header) (t : List Entry) : Type 0 where
-  pub protects : (b : Established) (d : Dir) → Contains (established t) b → Each (Protects h b d) t
-  pub carried : (b : Established) (d : Dir) → Contains (established t) b → Each (Carried b d) t
-  pub prefix : (b : Established) (d : Dir) → Contains (established t) b → Each (Prefix b d) t
-  pub causes : Each HasCause t
+-- the key name that a generation gives the identity, and the COUNT, under which a flight is protected
+abbrev pub protection : List Entry → LinkId × Flight → Option KeyName × Option ℕ
+protection t (l, flight.Air id g num tag pdu) = (key_in g id (plans t), tag)
+protection t _ = (None, None)
+
+-- data PDUs of one identity and direction that are protected under one key name and COUNT are of one establishment
+abbrev pub IsOneUse : List Entry → Type 0
+IsOneUse t = (b c : Established) (d : Dir) (x y : LinkId × Flight) → IsSentIn t x → IsSentIn t y
+    → IsDataFlight t b d x → IsDataFlight t c d y → b.id ≡ c.id → protection t x ≡ protection t y → b.g ≡ c.g
+
+-- all claims of a transcript of a run with so many policies
+pub record IsFaithful (h : Header) (policies : ℕ) (t : List Entry) : Type 0 where
+  pub bearers : Each (KeepsAll h) t
+  pub causes : Each (HasCause policies) t
   pub licence : Each (IsLicensed h) t
-  pub complete : (b : Established) → Contains (established t) b → IsComplete b t
+  pub one_use : IsOneUse t

@@ -1,6 +1,6 @@
 -- What stands on each link.
-use Rattle.std.specs.Prelude.{ℕ, ◌+◌, ◌*◌, ◌==◌, if◌then◌else◌, Bool, List, [], ◌∷◌, ◌++◌, fold, remove, slice_get, Option, Some, None}
-use Rattle.std.specs.List.{flat_map}
+use Rattle.std.specs.Prelude.{ℕ, ◌+◌, ◌*◌, ◌==◌, nat_lt, if◌then◌else◌, Bool, List, [], ◌∷◌, ◌++◌, length, fold, remove, slice_get, Option, Some, None}
+use Rattle.std.specs.List.{find, flat_map}
 use Rattle.std.specs.Option.{option_map}
 use Rattle.dc_base.specs.declared.nodes.Node.{Node}
 use Rattle.dc_base.specs.declared.nodes.Node.TheVariants.{T, M, A, B}
@@ -56,6 +56,10 @@ mt_air = record { from = M; to = T; class = Air }
 abbrev pub tm_air : LinkId
 tm_air = record { from = T; to = M; class = Air }
 
+-- whether the master receives from it
+abbrev pub is_to_master : LinkId → Bool
+is_to_master l = node_number l.to == 1
+
 -- the link of the same class the other way
 abbrev pub reverse : LinkId → LinkId
 reverse l = record { from = l.to; to = l.from; class = l.class }
@@ -105,3 +109,19 @@ given_at before _ _ = None
 -- the flight that an entry gives to a receiver, with its link; None unless it is a step that is answered ok
 abbrev pub given : List Entry → Entry → Option (LinkId × Flight)
 given before e = given_at before e.event e.answer
+
+-- a link by its ends and its class
+abbrev pub link : Node → Node → Class → LinkId
+link from to class = record { from = from; to = to; class = class }
+
+-- all links, in their order
+abbrev pub all_links : List LinkId
+all_links =
+    link M T Ctl ∷ link T M Ctl ∷ link M A Ctl ∷ link A M Ctl ∷ link M B Ctl ∷ link B M Ctl
+    ∷ link M A Feed ∷ link A M Feed ∷ link M B Feed ∷ link B M Feed
+    ∷ link M T Air ∷ link T M Air ∷ link A T Air ∷ link T A Air ∷ link B T Air ∷ link T B Air
+    ∷ link M A Tun ∷ link A M Tun ∷ link M B Tun ∷ link B M Tun ∷ link A B Tun ∷ link B A Tun ∷ []
+
+-- the first link on which a flight stands
+abbrev pub first_loaded : List Entry → Option LinkId
+first_loaded t = find (λ l. nat_lt 0 (length (content l t))) all_links

@@ -1,0 +1,199 @@
+-- From what an event owes to all that is kept.
+use Rattle.std.proofs.Common.{ℕ, ◌≡◌, ◌+◌, ◌-◌, ◌==◌, ◌≤◌, ◌++◌, length, take, drop, slice_get, List, [], ◌∷◌, Option, Some, None, Bool, true, false, refl, sym, ap, ◌∙◌, subst, arith, inl, inr, ◌⊎◌, ◌<◌}
+use Rattle.std.specs.Prelude.{if◌then◌else◌, nat_lt, Contains, remove}
+use Rattle.std.specs.List.{AllByRecursion, flat_map}
+use Rattle.dc_base.specs.declared.nodes.Dir.{Dir}
+use Rattle.dc_base.specs.declared.nodes.Dir.TheVariants.{Ul, Dl}
+use Rattle.dc_base.specs.declared.nodes.LinkId.{LinkId}
+use Rattle.dc_base.specs.declared.nodes.Node.{Node}
+use Rattle.dc_base.specs.declared.nodes.Node.TheVariants.{T, M, A, B}
+use Rattle.dc_base.specs.declared.nodes.Class.{Class}
+use Rattle.dc_base.specs.declared.nodes.Class.TheVariants.{Ctl, Feed, Air, Tun}
+use Rattle.dc_base.specs.declared.flights.Flight.{Flight}
+use Rattle.dc_base.specs.declared.events.Header.{Header}
+use Rattle.transcript.specs.Transcript.{Entry, sends}
+use Rattle.transcript.specs.Content.{is_same_link, without_taken, on_link, put_on, place_taken}
+use Rattle.transcript.specs.Bearers.{Established, established, submission, submitted, ups, handed, confirms, confirmed, tag_of, tags_sent, numbered, least_but, told}
+use Rattle.transcript.specs.Claims.{TakesData, KeepsAll, HasCause, IsLicensed}
+use Rattle.transcript.proofs.OnEach.{each_append, each_remove, each_weaker}
+use Rattle.transcript.proofs.Growing.{Each-next, SomeEntry-later}
+use Rattle.transcript.proofs.Establishing.{submitted-next, handed-next, confirmed-next, tags_sent-next, none_submitted, none_confirmed}
+use Rattle.std.proofs.lemmas.List.{append-nil, take-append-drop}
+use Rattle.std.proofs.lemmas.Bool.{cond_both, eqb-true}
+use Rattle.pdcp_tx.specs.Sender.{low}
+use Rattle.pdcp_rx.specs.Receiver.{Received}
+use Rattle.dc_world.specs.Entities.{Entities, bearer_in}
+use Rattle.dc_world.proofs.Lists.{numbered-append}
+use Rattle.dc_world.proofs.Lane.{IsLane, low_is, all_handed}
+use Rattle.dc_world.proofs.Contents.{on_moved, length_moved, contents-next, same_link}
+use Rattle.dc_world.specs.Control.{Nodes}
+use Rattle.dc_world.specs.Links.{Links, on, moved}
+use Rattle.dc_world.specs.Plane.{leg, other}
+use Rattle.dc_world.specs.Run.{WorldState}
+use Rattle.dc_world.proofs.Sound.{or_fresh, half, sender_table, receiver_table, listed, IsUnderWay, IsServed, IsPduOf, IsAckOf, Promise, PromiseOf, Grows, Happened, Sound}
+
+module _ (h : Header) (t : List Entry) (s : Nodes) (t' : List Entry) (s' : Nodes) (grows : Grows t s t' s') where
+  pdu_later : (d : Dir) (f : Flight) → IsPduOf h t d f → IsPduOf h t' d f
+  pdu_later d f p = record {
+    bearer = p.bearer;
+    there = grows.there p.bearer p.there;
+    count = p.count;
+    payload = p.payload;
+    good = p.good;
+    submission = grows.numbered p.bearer d p.there (p.count, p.payload) p.submission;
+    is = p.is;
+  }
+
+  ack_later : (d : Dir) (f : Flight) → IsAckOf t s d f → IsAckOf t' s' d f
+  ack_later d f a = record {
+    bearer = a.bearer;
+    there = grows.there a.bearer a.there;
+    count = a.count;
+    counted = a.counted;
+    got = grows.received a.bearer d a.there a.count a.got;
+    is = a.is;
+  }
+
+  air_later : (d : Dir) (f : Flight) → IsPduOf h t d f ⊎ IsAckOf t s (other d) f → IsPduOf h t' d f ⊎ IsAckOf t' s' (other d) f
+  air_later d f promise = elim promise [ inl pdu ↦ inl (pdu_later d f pdu) | inr ack ↦ inr (ack_later (other d) f ack) ]
+
+  -- promises last
+  pub Promise-later : (from to : Node) (class : Class) (f : Flight) → Promise h t s from to class f → Promise h t' s' from to class f
+  Promise-later M T Air f promise = air_later Dl f promise
+  Promise-later T M Air f promise = air_later Ul f promise
+  Promise-later M T Ctl f promise = promise
+  Promise-later T M Ctl f promise = promise
+  Promise-later M T Feed f promise = absurd promise
+  Promise-later M T Tun f promise = absurd promise
+  Promise-later T M Feed f promise = absurd promise
+  Promise-later T M Tun f promise = absurd promise
+  Promise-later T T class f promise = absurd promise
+  Promise-later T A class f promise = absurd promise
+  Promise-later T B class f promise = absurd promise
+  Promise-later M M class f promise = absurd promise
+  Promise-later M A class f promise = absurd promise
+  Promise-later M B class f promise = absurd promise
+  Promise-later A to class f promise = absurd promise
+  Promise-later B to class f promise = absurd promise
+
+-- a bearer and direction that an entry says nothing of is served as before
+pub served_same : (t : List Entry) (s : Nodes) (links : Links) (b : Established) (d : Dir) (e : Entry) (s' : Nodes) (links' : Links) → IsServed t s links b d
+    → submission b d t e ≡ [] → ups b d t e ≡ [] → confirms b d t e ≡ [] → ((num : ℕ) → flat_map (tag_of (leg d) b.id b.g num) (sends e.lines) ≡ [])
+    → half b (sender_table d s') ≡ half b (sender_table d s) → half b (receiver_table d s') ≡ half b (receiver_table d s)
+    → ((c : ℕ) → IsUnderWay b c (on links (leg d)) → IsUnderWay b c (on links' (leg d)))
+    → IsServed (t ++ e ∷ []) s' links' b d
+served_same t s links b d e s' links' served submits runs confirms_none tags sender receiver flying =
+    let S : submitted b d (t ++ e ∷ []) ≡ submitted b d t = submitted-next b d t e ∙ ap (λ xs. submitted b d t ++ xs) submits ∙ append-nil (submitted b d t) in
+    let H : handed b d (t ++ e ∷ []) ≡ handed b d t = handed-next b d t e ∙ ap (λ xs. handed b d t ++ xs) runs ∙ append-nil (handed b d t) in
+    let C : confirmed b d (t ++ e ∷ []) ≡ confirmed b d t = confirmed-next b d t e ∙ ap (λ xs. confirmed b d t ++ xs) confirms_none ∙ append-nil (confirmed b d t) in
+    let lane = λ (xs : List (List ℕ)) (cs : List ℕ) (x y : Entities). IsLane b.n b.first xs cs x.tx x.sent y.rx in
+    record {
+      lane = subst (λ xs. lane xs (confirmed b d (t ++ e ∷ [])) (half b (sender_table d s')) (half b (receiver_table d s'))) (sym S)
+          (subst (λ cs. lane (submitted b d t) cs (half b (sender_table d s')) (half b (receiver_table d s'))) (sym C)
+          (subst (λ x. lane (submitted b d t) (confirmed b d t) x (half b (receiver_table d s'))) (sym sender)
+          (subst (λ y. lane (submitted b d t) (confirmed b d t) (half b (sender_table d s)) y) (sym receiver) served.lane)));
+      handed_is = H ∙ served.handed_is
+          ∙ ap (λ (y : Entities). numbered b.first (take (y.rx.deliv - b.first) (submitted b d t))) (sym receiver)
+          ∙ ap (λ xs. numbered b.first (take ((half b (receiver_table d s')).rx.deliv - b.first) xs)) (sym S);
+      came = λ c from got. SomeEntry-later (TakesData b d c) t e (served.came c from (subst (λ (y : Entities). Received y.rx c) receiver got));
+      owed = λ c from below. elim (served.owed c from (subst (λ (x : Entities). c < x.tx.next) sender below)) [
+        | inl got ↦ inl (subst (λ (y : Entities). Received y.rx c) (sym receiver) got)
+        | inr way ↦ inr (flying c way)
+      ];
+      numbers = λ num. tags_sent-next (leg d) b.id b.g num t e ∙ ap (λ xs. tags_sent (leg d) b.id b.g num t ++ xs) (tags num)
+          ∙ append-nil (tags_sent (leg d) b.id b.g num t) ∙ served.numbers num ∙ ap (λ (x : Entities). listed (slice_get x.sent num)) (sym sender);
+    }
+
+-- what was handed up is a front of what was submitted, and all of it where no flight stands on a link
+served_prefix : (t : List Entry) (s : Nodes) (links : Links) (b : Established) (d : Dir) → IsServed t s links b d
+    → (rest : List (ℕ × List ℕ)) × (numbered b.first (submitted b d t) ≡ handed b d t ++ rest)
+served_prefix t s links b d served =
+    let k = (half b (receiver_table d s)).rx.deliv - b.first in
+    let S = submitted b d t in (
+      numbered (b.first + length (take k S)) (drop k S),
+      ap (numbered b.first) (sym (take-append-drop k S)) ∙ numbered-append b.first (take k S) (drop k S)
+          ∙ ap (λ xs. xs ++ numbered (b.first + length (take k S)) (drop k S)) (sym served.handed_is),
+    )
+
+served_complete : (t : List Entry) (s : Nodes) (links : Links) (b : Established) (d : Dir) → IsServed t s links b d → on links (leg d) ≡ []
+    → handed b d t ≡ numbered b.first (submitted b d t)
+served_complete t s links b d served none =
+    let x = half b (sender_table d s) in let y = half b (receiver_table d s) in
+    served.handed_is ∙ ap (numbered b.first) (all_handed b.n b.first (submitted b d t) (confirmed b d t) x.tx x.sent y.rx served.lane
+    (λ c from below. elim (served.owed c from below) [ inl got ↦ got | inr way ↦ absurd (subst (IsUnderWay b c) none way) ]))
+
+-- where the window of a bearer begins is its sender's Low
+pub served_told : (t : List Entry) (s : Nodes) (links : Links) (b : Established) (d : Dir) → IsServed t s links b d → told b d t ≡ low (half b (sender_table d s)).tx
+served_told t s links b d served =
+    let x = half b (sender_table d s) in let y = half b (receiver_table d s) in
+    sym (low_is b.n b.first (submitted b d t) (confirmed b d t) x.tx x.sent y.rx served.lane)
+
+module _ (h : Header) (policies : ℕ) (t : List Entry) (w : WorldState) (e : Entry) (s' : Nodes) (sound : Sound h policies t w) (happened : Happened h policies t w e s') where
+  abbrev links' : Links
+  links' = moved w.links (place_taken e.event e.answer) e.lines
+
+  -- before it is established nothing is told of a bearer: its window begins at its first COUNT
+  told_before : (b : Established) (d : Dir) → Contains (established (t ++ e ∷ [])) b → told b d t ≡ low (half b (sender_table d w.nodes)).tx
+  told_before b d there = elim (happened.fresh_before b there) [
+    | inl was ↦ served_told t w.nodes w.links b d (sound.served b d was)
+    | inr (later, at_master, at_terminal) ↦
+        ap (λ cs. least_but cs b.first (length (submitted b d t))) (none_confirmed b d t later)
+        ∙ ap (λ (xs : List (List ℕ)). least_but [] b.first (length xs)) (none_submitted b d t later)
+        ∙ ap (λ o. low (or_fresh b o).tx) (sym (at_sender d at_master at_terminal))
+  ]
+    where
+      at_sender : (d : Dir) → bearer_in w.nodes.master b.id ≡ None → bearer_in w.nodes.terminal b.id ≡ None → bearer_in (sender_table d w.nodes) b.id ≡ None
+      at_sender Dl none _ = none
+      at_sender Ul _ none = none
+
+  kept : KeepsAll h t e
+  kept b d there =
+      let served = happened.served b d there in
+      let t' : List Entry = t ++ e ∷ [] in
+      record {
+        protects = happened.protects b d there;
+        carried = happened.carried b d there;
+        prefix = served_prefix t' s' links' b d served;
+        frees = happened.freed b d there ∙
+            (let before = told_before b d there in let after = served_told t' s' links' b d served in
+            ap (λ m. if nat_lt m (low (half b (sender_table d s')).tx) then low (half b (sender_table d s')).tx ∷ [] else []) (sym before)
+            ∙ ap (λ m. if nat_lt (told b d t) m then m ∷ [] else []) (sym after));
+        complete = λ quiet. served_complete t' s' links' b d served (sym (contents-next t e w.links sound.long sound.contents (leg d)) ∙ quiet (leg d));
+      }
+
+  -- and so the whole is kept
+  pub sound_next : Sound h policies (t ++ e ∷ []) (record w { nodes = s'; links = links' })
+  sound_next = record {
+    header = sound.header;
+    long = length_moved w.links (place_taken e.event e.answer) e.lines ∙ sound.long;
+    contents = contents-next t e w.links sound.long sound.contents;
+    tables = happened.tables;
+    phase = happened.phase;
+    served = happened.served;
+    promises = λ l.
+        let P = Promise h (t ++ e ∷ []) s' l.from l.to l.class in
+        subst (AllByRecursion P) (sym (on_moved w.links (place_taken e.event e.answer) e.lines l sound.long))
+        (each_append P (without_taken l (place_taken e.event e.answer) (on w.links l)) (put_on l e.lines)
+        (each_left P l (place_taken e.event e.answer) (on w.links l)
+        (each_weaker (Promise h t w.nodes l.from l.to l.class) P (Promise-later h t w.nodes (t ++ e ∷ []) s' happened.grows l.from l.to l.class) (on w.links l) (sound.promises l)))
+        (each_put l (sends e.lines) happened.sent));
+    none_sent = happened.none_sent;
+    claims = Each-next (KeepsAll h) t e sound.claims kept;
+    causes = Each-next (HasCause policies) t e sound.causes happened.cause;
+    licence = Each-next (IsLicensed h) t e sound.licence happened.licence;
+  }
+    where
+      each_left : (P : Flight → Type 0) (l : LinkId) (place : Option (LinkId × ℕ)) (fs : List Flight) → AllByRecursion P fs → AllByRecursion P (without_taken l place fs)
+      each_left P l None fs all = all
+      each_left P l (Some place) fs all =
+          cond_both (is_same_link l place.0) (remove fs place.1) fs (AllByRecursion P) (λ _. each_remove P fs place.1 all) (λ _. all)
+
+      -- a send on a link keeps the promise of that link
+      each_put : (l : LinkId) (xs : List (LinkId × Flight)) → AllByRecursion (PromiseOf h (t ++ e ∷ []) s') xs
+          → AllByRecursion (Promise h (t ++ e ∷ []) s' l.from l.to l.class) (flat_map (on_link l) xs)
+      each_put l [] all = tt
+      each_put l (x ∷ xs) all =
+          each_append (Promise h (t ++ e ∷ []) s' l.from l.to l.class) (on_link l x) (flat_map (on_link l) xs)
+          (cond_both (is_same_link l x.0) (x.1 ∷ []) [] (AllByRecursion (Promise h (t ++ e ∷ []) s' l.from l.to l.class))
+          (λ same. (subst (λ k. Promise h (t ++ e ∷ []) s' k.from k.to k.class x.1) (sym (same_link l x.0 same)) all.0, tt)) (λ _. tt))
+          (each_put l xs all.1)

@@ -1,0 +1,257 @@
+-- The terminal takes the plan of a bearer.
+use Rattle.std.proofs.Common.{◌≤◌, ℕ, ◌≡◌, ◌==◌, ◌⊎◌, ◌++◌, List, [], ◌∷◌, Some, None, true, false, slice_get, refl, sym, ap, ◌∙◌, subst, arith, inl, inr, append-nil}
+use Rattle.std.specs.Prelude.{Contains, is_some, if◌then◌else◌}
+use Rattle.std.specs.List.{remove, list_any}
+use Rattle.std.specs.Option.{option_map}
+use Rattle.std.proofs.lemmas.Bool.{cases_Bool, cond-false, cond-true, eqb-true, eqb-false}
+use Rattle.dc_base.specs.declared.nodes.Dir.{Dir}
+use Rattle.dc_base.specs.declared.nodes.Shape.{Shape}
+use Rattle.dc_base.specs.declared.nodes.Dir.TheVariants.{Ul, Dl}
+use Rattle.dc_base.specs.declared.flights.Flight.TheVariants as flight
+use Rattle.dc_base.specs.declared.records.Plan.{Plan}
+use Rattle.dc_base.specs.declared.records.Rec.TheVariants.{Reconf, Rcomp}
+use Rattle.dc_base.specs.declared.answers.Answer.TheVariants as answer
+use Rattle.dc_base.specs.declared.events.Header.{Header}
+use Rattle.dc_base.specs.declared.events.Event.TheVariants.{Step}
+use Rattle.dc_base.specs.declared.events.Line.TheVariants as line
+use Rattle.dc_base.specs.declared.events.Note.TheVariants as note
+use Rattle.pdcp_tx.specs.Sender.{low}
+use Rattle.transcript.specs.Transcript.{Entry}
+use Rattle.transcript.specs.Content.{mt_ctl, tm_ctl, given}
+use Rattle.transcript.specs.Bearers.{submitted, handed, confirmed, tags_sent, Established, established, is_latest, latest, is_set, at_terminal, key_in, confirms, confirmed_by}
+use Rattle.transcript.specs.Claims.{IsLicensed, HasCause, step_answer}
+use Rattle.dc_world.specs.Entities.{fresh, bearer_in, with_bearer}
+use Rattle.dc_world.specs.Plane.{leg}
+use Rattle.dc_world.specs.Control.{Nodes, plan_for}
+use Rattle.dc_world.specs.Links.{Links, on, moved}
+use Rattle.dc_world.specs.Run.{WorldState}
+use Rattle.transcript.proofs.Establishing.{open_command-next, is_set-next, IsOnce, same_bearer}
+use Rattle.dc_world.proofs.Contents.{on_moved}
+use Rattle.dc_world.proofs.Assembly.{served_same}
+use Rattle.dc_world.proofs.Tables.{bearer_in-same, bearer_in-other, length-with_bearer}
+use Rattle.dc_world.proofs.Sound.{or_fresh, half, sender_table, receiver_table, IsUnderWay, IsServed, AllConfigured, Phase, answered as phase_answered, IsTabled, Happened, Sound}
+use Rattle.dc_world.proofs.Silent.{confirmed_same, plans_same, established_same, generation_same, same_choice, IsSilent, submitted_same, handed_same, tags_same, none_sent_still, none_carried, none_freed, still_grows, IsBare, fresh_bare, bare_low, bare_served, none_yet}
+
+module _ (h : Header) (policies : ℕ) (t : List Entry) (w : WorldState) (sound : Sound h policies t w) (b : Established) (there : Contains (established t) b) (shape : Shape) (threshold policy : ℕ) where
+  -- the plan of the open command
+  abbrev pub plan : Plan
+  plan = plan_for b.g b.id b.n b.first shape threshold policy
+
+  -- the entry
+  abbrev pub configured : Entry
+  configured = record { event = Step mt_ctl 0; answer = answer.Ok; lines = line.Note (note.Set b.id b.g) ∷ line.Send tm_ctl (flight.Ctl (Rcomp b.g)) ∷ [] }
+
+  -- the nodes after it
+  abbrev pub configured_nodes : Nodes
+  configured_nodes = record w.nodes { terminal = with_bearer w.nodes.terminal b.id (Some (fresh b)) }
+
+  -- the transcript after it
+  abbrev after_configured : List Entry
+  after_configured = t ++ configured ∷ []
+
+  module _ (at : on w.links mt_ctl ≡ flight.Ctl (Reconf plan h.root) ∷ []) where
+    -- the flight that it gives
+    configured_given : given t configured ≡ Some (mt_ctl, flight.Ctl (Reconf plan h.root))
+    configured_given = ap (λ fs. option_map (λ f. (mt_ctl, f)) (slice_get fs 0)) (sound.contents mt_ctl ∙ at)
+
+    -- it carries no data
+    configured_silent : IsSilent t configured
+    configured_silent = record {
+      submits = λ c d. refl;
+      hands = λ c d. same_choice (is_latest c t) [];
+      moves = λ c d. same_choice (is_latest c t) [];
+      confirms = λ c d. elim d as (λ d. confirms c d t configured ≡ []) [ Ul ↦ refl | Dl ↦ ap (confirmed_by c t) configured_given ];
+      tags = λ l id g num. refl;
+    }
+
+    -- its send has its reason
+    configured_licence : IsLicensed h t configured
+    configured_licence = record {
+      reasons = (record { plan = plan; root = h.root; is_given = configured_given; same = refl; to_master = refl }, tt);
+      one = omega arith;
+    }
+
+    -- its answer is due
+    configured_cause : HasCause policies t configured
+    configured_cause = sym (ap (λ fs. step_answer t mt_ctl 0 (slice_get fs 0)) (sound.contents mt_ctl ∙ at))
+
+  -- the bearers are the same
+  configured_established : established after_configured ≡ established t
+  configured_established = established_same t configured refl refl
+
+  -- so each of them was there before
+  configured_back : (c : Established) → Contains (established after_configured) c → Contains (established t) c
+  configured_back c is = subst (λ bs. Contains bs c) configured_established is
+
+  -- and each that was there is one of them
+  configured_on : (c : Established) → Contains (established t) c → Contains (established after_configured) c
+  configured_on c is = subst (λ bs. Contains bs c) (sym configured_established) is
+
+  -- the identities at the terminal then
+  configured_set : (id : ℕ) → is_set id after_configured ≡ (if b.id == id then true else is_set id t)
+  configured_set id = is_set-next id t configured
+
+  -- the terminal has it then
+  terminal_has : bearer_in configured_nodes.terminal b.id ≡ Some (fresh b)
+  terminal_has = bearer_in-same w.nodes.terminal b.id (Some (fresh b)) (let small = (sound.tables.ranged b there).0 in let long = sound.tables.terminal_long in omega arith)
+
+  -- and of other identities what it had
+  terminal_other : (id : ℕ) → (b.id == id) ≡ false → bearer_in configured_nodes.terminal id ≡ bearer_in w.nodes.terminal id
+  terminal_other id apart = bearer_in-other w.nodes.terminal b.id id (Some (fresh b)) apart
+
+  -- the terminal follows the transcript
+  configured_terminal_is : (id : ℕ) → option_map (λ e. e.bearer) (bearer_in configured_nodes.terminal id) ≡ at_terminal id after_configured
+  configured_terminal_is id = elim (cases_Bool (b.id == id)) [
+    | inl same ↦
+        let id_is : b.id ≡ id = eqb-true b.id id same in
+        let set : is_set id after_configured ≡ true = configured_set id ∙ cond-true _ _ _ same in
+        ap (option_map (λ e. e.bearer)) (subst (λ k. bearer_in configured_nodes.terminal k ≡ Some (fresh b)) id_is terminal_has)
+        ∙ sym (cond-true _ _ _ set ∙ ap (latest id) configured_established ∙ subst (λ k. latest k (established t) ≡ Some b) id_is (sound.tables.once b there))
+    | inr apart ↦
+        let set : is_set id after_configured ≡ is_set id t = configured_set id ∙ cond-false _ _ _ apart in
+        ap (option_map (λ e. e.bearer)) (terminal_other id apart) ∙ sound.tables.terminal_is id
+        ∙ sym (ap (λ x. if x then latest id (established after_configured) else None) set ∙ ap (λ bs. if is_set id t then latest id bs else None) configured_established)
+  ]
+
+  -- and has the identities that it was told
+  configured_set_is : (id : ℕ) → is_set id after_configured ≡ is_some (bearer_in configured_nodes.terminal id)
+  configured_set_is id = elim (cases_Bool (b.id == id)) [
+    | inl same ↦
+        configured_set id ∙ cond-true _ _ _ same
+        ∙ sym (ap (λ o. is_some o) (subst (λ k. bearer_in configured_nodes.terminal k ≡ Some (fresh b)) (eqb-true b.id id same) terminal_has))
+    | inr apart ↦ configured_set id ∙ cond-false _ _ _ apart ∙ sound.tables.set_is id ∙ sym (ap (λ o. is_some o) (terminal_other id apart))
+  ]
+
+  -- the nodes follow the transcript
+  configured_tables : IsTabled after_configured configured_nodes
+  configured_tables =
+      let tables = sound.tables in
+      record {
+        master_long = tables.master_long;
+        terminal_long = length-with_bearer w.nodes.terminal b.id (Some (fresh b)) ∙ tables.terminal_long;
+        master_is = λ id. tables.master_is id ∙ ap (latest id) (sym configured_established);
+        terminal_is = configured_terminal_is;
+        set_is = configured_set_is;
+        drawn_is = tables.drawn_is ∙ sym (generation_same t configured refl refl);
+        busy_is = tables.busy_is ∙ sym (open_command-next t configured);
+        once = subst IsOnce (sym configured_established) tables.once;
+        ranged = λ c is. tables.ranged c (configured_back c is);
+        keyed = λ c is. ap (key_in c.g c.id) (plans_same t configured refl refl) ∙ tables.keyed c (configured_back c is);
+      }
+
+  -- so it begins with the bearer
+  terminal_half : half b configured_nodes.terminal ≡ fresh b
+  terminal_half = ap (or_fresh b) terminal_has
+
+  -- every other bearer's is the same
+  configured_half : (c : Established) → Contains (established t) c → (c ≡ b) ⊎ (half c configured_nodes.terminal ≡ half c w.nodes.terminal)
+  configured_half c is = elim (cases_Bool (b.id == c.id)) [
+    | inl same ↦ inl (sym (same_bearer (established t) b c sound.tables.once there is (eqb-true b.id c.id same)))
+    | inr apart ↦ inr (ap (or_fresh c) (terminal_other c.id apart))
+  ]
+
+  module _ (none : (d : Dir) → submitted b d t ≡ []) where
+    -- the bearer carried nothing before
+    abbrev before_bare : (d : Dir) → IsBare b (half b (sender_table d w.nodes)).tx (half b (sender_table d w.nodes)).sent × ((half b (receiver_table d w.nodes)).rx ≡ (fresh b).rx)
+        × (handed b d t ≡ []) × ((num : ℕ) → tags_sent (leg d) b.id b.g num t ≡ []) × ((c : ℕ) → b.first ≤ c → list_any (λ x. x == c) (confirmed b d t) ≡ false)
+    before_bare d = none_yet t w.nodes w.links b d (sound.served b d there) (none d)
+
+    -- and carries nothing yet
+    configured_bare : (d : Dir) → IsBare b (half b (sender_table d configured_nodes)).tx (half b (sender_table d configured_nodes)).sent
+    configured_bare Dl = (before_bare Dl).0
+    configured_bare Ul = subst (λ e. IsBare b e.tx e.sent) (sym terminal_half) (fresh_bare b)
+
+    -- its receiving entity is new
+    configured_rx_bare : (d : Dir) → (half b (receiver_table d configured_nodes)).rx ≡ (fresh b).rx
+    configured_rx_bare Dl = ap (λ e. e.rx) terminal_half
+    configured_rx_bare Ul = (before_bare Ul).1
+
+    -- receiving entities are as before
+    configured_rx : (c : Established) (d : Dir) → Contains (established t) c → (half c (receiver_table d configured_nodes)).rx ≡ (half c (receiver_table d w.nodes)).rx
+    configured_rx c Ul is = refl
+    configured_rx c Dl is = elim (configured_half c is) [
+      | inl same ↦ subst (λ c. (half c configured_nodes.terminal).rx ≡ (half c w.nodes.terminal).rx) (sym same) (configured_rx_bare Dl ∙ sym (before_bare Dl).1)
+      | inr same ↦ ap (λ e. e.rx) same
+    ]
+
+    -- windows are as before
+    configured_low : (c : Established) (d : Dir) → Contains (established t) c → low (half c (sender_table d configured_nodes)).tx ≡ low (half c (sender_table d w.nodes)).tx
+    configured_low c Dl is = refl
+    configured_low c Ul is = elim (configured_half c is) [
+      | inl same ↦ subst (λ c. low (half c configured_nodes.terminal).tx ≡ low (half c w.nodes.terminal).tx) (sym same)
+          (bare_low b _ _ (configured_bare Ul) ∙ sym (bare_low b _ _ (before_bare Ul).0))
+      | inr same ↦ ap (λ e. low e.tx) same
+    ]
+
+    module _ (at : on w.links mt_ctl ≡ flight.Ctl (Reconf plan h.root) ∷ []) where
+      -- the links after it
+      abbrev links_configured : Links
+      links_configured = moved w.links (Some (mt_ctl, 0)) configured.lines
+
+      -- the legs are as before
+      air_configured : (d : Dir) → on links_configured (leg d) ≡ on w.links (leg d)
+      air_configured Dl = on_moved w.links (Some (mt_ctl, 0)) configured.lines (leg Dl) sound.long ∙ append-nil (on w.links (leg Dl))
+      air_configured Ul = on_moved w.links (Some (mt_ctl, 0)) configured.lines (leg Ul) sound.long ∙ append-nil (on w.links (leg Ul))
+
+      -- any other bearer is served as before
+      configured_served_other : (c : Established) (d : Dir) → Contains (established t) c → half c configured_nodes.terminal ≡ half c w.nodes.terminal
+          → IsServed after_configured configured_nodes links_configured c d
+      configured_served_other c d is same =
+          let silent = configured_silent at in
+          served_same t w.nodes w.links c d configured configured_nodes links_configured (sound.served c d is) (silent.submits c d) (silent.hands c d) (silent.confirms c d) (silent.tags (leg d) c.id c.g)
+          (elim d as (λ d. half c (sender_table d configured_nodes) ≡ half c (sender_table d w.nodes)) [ Ul ↦ same | Dl ↦ refl ])
+          (elim d as (λ d. half c (receiver_table d configured_nodes) ≡ half c (receiver_table d w.nodes)) [ Ul ↦ refl | Dl ↦ same ])
+          (λ count flying. subst (IsUnderWay c count) (sym (air_configured d)) flying)
+
+      -- the bearer is served
+      configured_served_it : (d : Dir) → IsServed after_configured configured_nodes links_configured b d
+      configured_served_it d =
+          let silent = configured_silent at in
+          bare_served after_configured configured_nodes links_configured b d (sound.tables.ranged b there).1
+          (submitted_same t configured silent b d ∙ none d) (handed_same t configured silent b d ∙ (before_bare d).2)
+          (λ num. tags_same t configured silent (leg d) b.id b.g num ∙ (before_bare d).3 num)
+          (λ c le. ap (list_any (λ x. x == c)) (confirmed_same t configured silent b d) ∙ (before_bare d).4 c le) (configured_bare d) (configured_rx_bare d)
+
+      -- so every bearer is served
+      configured_served : (c : Established) (d : Dir) → Contains (established after_configured) c → IsServed after_configured configured_nodes links_configured c d
+      configured_served c d is = elim (configured_half c (configured_back c is)) [
+        | inl same ↦ subst (λ c. IsServed after_configured configured_nodes links_configured c d) (sym same) (configured_served_it d)
+        | inr same ↦ configured_served_other c d (configured_back c is) same
+      ]
+
+      -- every bearer is at the terminal
+      all_configured : ((c : Established) → Contains (established t) c → bearer_in w.nodes.terminal c.id ≡ None → c ≡ b) → AllConfigured after_configured configured_nodes
+      all_configured only c is gone = elim (cases_Bool (b.id == c.id)) [
+        | inl same ↦ let has = subst (λ k. bearer_in configured_nodes.terminal k ≡ Some (fresh b)) (eqb-true b.id c.id same) terminal_has in absurd (cc)
+        | inr apart ↦
+            let same : c ≡ b = only c (configured_back c is) (sym (terminal_other c.id apart) ∙ gone) in
+            absurd (eqb-false b.id c.id apart (ap (λ c. c.id) (sym same)))
+      ]
+
+      -- the command is answered
+      configured_phase : w.nodes.busy ≡ Some b.g → on w.links tm_ctl ≡ [] → ((c : Established) → Contains (established t) c → bearer_in w.nodes.terminal c.id ≡ None → c ≡ b)
+          → Phase h after_configured configured_nodes links_configured
+      configured_phase busy empty only = phase_answered b (configured_on b there) busy
+          (on_moved w.links (Some (mt_ctl, 0)) configured.lines mt_ctl sound.long ∙ ap (λ fs. remove fs 0 ++ []) at)
+          (on_moved w.links (Some (mt_ctl, 0)) configured.lines tm_ctl sound.long ∙ ap (λ fs. fs ++ flight.Ctl (Rcomp b.g) ∷ []) empty)
+          (all_configured only)
+
+      -- all that it owes
+      pub configured_happened : w.nodes.busy ≡ Some b.g → on w.links tm_ctl ≡ [] → ((c : Established) → Contains (established t) c → bearer_in w.nodes.terminal c.id ≡ None → c ≡ b)
+          → Happened h policies t w configured configured_nodes
+      configured_happened busy empty only =
+          let silent = configured_silent at in
+          record {
+            tables = configured_tables;
+            phase = configured_phase busy empty only;
+            served = configured_served;
+            grows = still_grows t configured silent w.nodes configured_nodes configured_on configured_rx;
+            sent = (tt, tt);
+            none_sent = none_sent_still t configured silent sound.none_sent;
+            protects = λ c d is. ((λ is_data. absurd is_data), tt);
+            carried = λ c d is. none_carried t configured silent c d;
+            freed = λ c d is. none_freed t configured silent c d (half c (sender_table d w.nodes)).tx (half c (sender_table d configured_nodes)).tx (configured_low c d (configured_back c is));
+            fresh_before = λ c is. inl (configured_back c is);
+            cause = configured_cause at;
+            licence = configured_licence at;
+          }

@@ -1,0 +1,96 @@
+-- Lists of payloads and of their COUNTs: places in them, and one more at the end.
+use Rattle.std.proofs.Common.{ℕ, zero, suc, ◌≡◌, ◌+◌, ◌<◌, ◌≤◌, ◌==◌, ◌||◌, ◌++◌, true, false, not, List, [], ◌∷◌, Some, None, length, take, slice_get, refl, ap, ◌∙◌, subst, arith, inl, inr}
+use Rattle.std.specs.Prelude.{if◌then◌else◌, nat_lt}
+use Rattle.std.specs.List.{list_any, range_with_len}
+use Rattle.std.proofs.lemmas.Bool.{cases_Bool, eqb-true, or_cases, or_right}
+use Rattle.std.proofs.lemmas.Bool.Decides.{nat_tests}
+use Rattle.pdcp_tx.specs.Sender.{Entry, least, is_kept, Rises}
+use Rattle.pdcp_tx.proofs.Entries.{Rises-bounds}
+use Rattle.transcript.specs.Bearers.{numbered, least_but}
+
+-- a place of the first list is one of the two
+pub slice_get_left : {X : Type 0} (xs ys : List X) (k : ℕ) (x : X) → slice_get xs k ≡ Some x → slice_get (xs ++ ys) k ≡ Some x
+slice_get_left [] ys k x h = absurd cc
+slice_get_left (y ∷ xs) ys zero x h = h
+slice_get_left (y ∷ xs) ys (suc k) x h = slice_get_left xs ys k x h
+
+-- the last place
+pub slice_get_last : {X : Type 0} (xs : List X) (x : X) → slice_get (xs ++ x ∷ []) (length xs) ≡ Some x
+slice_get_last [] x = refl
+slice_get_last (y ∷ xs) x = slice_get_last xs x
+
+-- one more element is taken
+pub take_next : {X : Type 0} (xs : List X) (k : ℕ) (x : X) → slice_get xs k ≡ Some x → take (suc k) xs ≡ take k xs ++ x ∷ []
+take_next [] k x h = absurd cc
+take_next (y ∷ xs) zero x h = cc
+take_next (y ∷ xs) (suc k) x h = let more = take_next xs k x h in cc
+
+-- the COUNTs go on where the first payloads end
+pub numbered-append : (c : ℕ) (xs ys : List (List ℕ)) → numbered c (xs ++ ys) ≡ numbered c xs ++ numbered (c + length xs) ys
+numbered-append c [] ys = ap (λ k. numbered k ys) (omega arith)
+numbered-append c (x ∷ xs) ys =
+    ap (λ (es : List (ℕ × List ℕ)). (c, x) ∷ es)
+    (numbered-append (c + 1) xs ys ∙ ap (λ k. numbered (c + 1) xs ++ numbered k ys) (omega arith))
+
+-- one more number
+pub range_next : (a n : ℕ) → range_with_len a (suc n) ≡ range_with_len a n ++ (a + n) ∷ []
+range_next a zero = ap (λ (k : ℕ). k ∷ []) (omega arith)
+range_next a (suc n) =
+    ap (λ (ks : List ℕ). a ∷ ks) (range_next (a + 1) n ∙ ap (λ k. range_with_len (a + 1) n ++ k ∷ []) (omega arith))
+
+-- the number at a place
+pub range_at : (a n k : ℕ) → slice_get (range_with_len a n) k ≡ (if nat_lt k n then Some (a + k) else None)
+range_at a zero k = grind (arith, nat_tests)
+range_at a (suc n) zero = grind (arith, nat_tests)
+range_at a (suc n) (suc k) = grind (arith, nat_tests, range_at (a + 1) n k)
+
+-- ---- what is kept
+
+-- a COUNT that is kept is not below the least
+pub least_upto : (next c : ℕ) (es : List Entry) → is_kept es c ≡ true → least next es ≤ c
+least_upto next c [] kept = absurd cc
+least_upto next c (e ∷ es) kept =
+    elim (or_cases (e.0 == c) (is_kept es c) kept) [
+      | inl here ↦ let is = eqb-true e.0 c here in omega arith
+      | inr later ↦ let rest = least_upto next c es later in omega arith
+    ]
+
+-- one more is kept: those below it are as before
+pub kept_before : (next c : ℕ) (p : List ℕ) (es : List Entry) → c < next → is_kept (es ++ (next, p) ∷ []) c ≡ is_kept es c
+kept_before next c p [] lt = grind (arith, nat_tests)
+kept_before next c p (e ∷ es) lt = ap (λ b. (e.0 == c) || b) (kept_before next c p es lt)
+
+-- and it is kept itself
+pub kept_same : (next c : ℕ) (p : List ℕ) (es : List Entry) → next ≡ c → is_kept (es ++ (next, p) ∷ []) c ≡ true
+kept_same next c p [] is = grind (arith, nat_tests)
+kept_same next c p (e ∷ es) is = or_right (e.0 == c) _ (kept_same next c p es is)
+
+-- where the first COUNT is not kept, they rise from the one after it
+pub Rises-past : (c next : ℕ) (es : List Entry) → c < next → is_kept es c ≡ false → Rises c next es → Rises (c + 1) next es
+Rises-past c next [] lt none up = omega arith
+Rises-past c next (e ∷ es) lt none up =
+    elim (cases_Bool (e.0 == c)) [
+      | inl here ↦ absurd (grind (arith, nat_tests))
+      | inr apart ↦ (grind (arith, nat_tests, up.0), up.1)
+    ]
+
+-- nothing is kept where no COUNT was given
+Rises-none : (c : ℕ) (es : List Entry) → Rises c c es → least c es ≡ c
+Rises-none c es up = let bounds = Rises-bounds c c es up in omega (arith, bounds.0, bounds.1)
+
+-- where what is kept are the COUNTs not confirmed, the least kept is the least not confirmed
+pub least_is : (confirms : List ℕ) (k c : ℕ) (es : List Entry) → Rises c (c + k) es
+    → ((d : ℕ) → c ≤ d → d < c + k → is_kept es d ≡ not (list_any (λ x. x == d) confirms)) → least (c + k) es ≡ least_but confirms c k
+least_is confirms zero c es up are = let end : c + zero ≡ c = omega arith in rw end (Rises-none c es (subst (λ k. Rises c k es) end up))
+least_is confirms (suc k) c es up are =
+    let here = are c (omega arith) (omega arith) in
+    elim (cases_Bool (list_any (λ x. x == c) confirms)) [
+      | inl gone ↦
+          let end : c + suc k ≡ c + 1 + k = omega arith in
+          let past = Rises-past c (c + suc k) es (omega arith) (here ∙ ap not gone) up in
+          rw gone (ap (λ m. least m es) end ∙ least_is confirms k (c + 1) es (subst (λ m. Rises (c + 1) m es) end past) (λ d from below. are d (omega arith) (omega arith)))
+      | inr left ↦
+          let upto = least_upto (c + suc k) c es (here ∙ ap not left) in
+          let bounds = Rises-bounds c (c + suc k) es up in
+          rw left (omega (arith, bounds.0))
+    ]

@@ -1,0 +1,465 @@
+-- A payload is submitted and taken.
+use Rattle.std.proofs.Common.{ℕ, zero, suc, ◌≡◌, ◌+◌, ◌-◌, ◌^◌, ◌<◌, ◌≤◌, ◌⊎◌, ◌==◌, ◌++◌, List, [], ◌∷◌, Some, None, true, false, length, slice_get, refl, sym, ap, ◌∙◌, subst, arith, inl, inr}
+use Rattle.std.specs.Prelude.{Contains, Ok, nat_le, nat_lt, if◌then◌else◌}
+use Rattle.std.specs.List.{AllByRecursion, flat_map}
+use Rattle.std.proofs.lemmas.List.{append-nil, length_push}
+use Rattle.std.proofs.lemmas.List.FromFn.{length-range_with_len}
+use Rattle.std.proofs.lemmas.Option.{none-some}
+use Rattle.std.proofs.lemmas.Bool.{cases_Bool, cases_lt, eqb-true, eqb-false, eq-eqb, ne_eqb, leb-false, cond-false, cond-true}
+use Rattle.std.proofs.lemmas.Bool.Decides.{nat_tests}
+use Rattle.dc_base.specs.Count.{window, sn}
+use Rattle.dc_base.specs.declared.nodes.Dir.{Dir}
+use Rattle.dc_base.specs.declared.nodes.Dir.TheVariants.{Ul, Dl}
+use Rattle.dc_base.specs.declared.nodes.LinkId.{LinkId}
+use Rattle.dc_base.specs.declared.flights.Flight.{Flight}
+use Rattle.dc_base.specs.declared.answers.Answer.TheVariants as answer
+use Rattle.dc_base.specs.declared.events.Header.{Header}
+use Rattle.dc_base.specs.declared.events.Event.TheVariants.{Submit}
+use Rattle.dc_base.specs.declared.events.Line.TheVariants as line
+use Rattle.pdcp_pdu.specs.DataPdu.{IsPayload, data_pdu}
+use Rattle.pdcp_tx.specs.Sender.{Sender, least, low}
+use Rattle.pdcp_tx.specs.Sender.{Entry as Kept}
+use Rattle.pdcp_tx.specs.Sending.{taken}
+use Rattle.pdcp_rx.specs.declared.entity.RxParts.{RxParts}
+use Rattle.pdcp_rx.specs.Receiver.{Received}
+use Rattle.transcript.specs.Transcript.{Entry, sends, SomeEntry}
+use Rattle.transcript.specs.Content.{mt_ctl, tm_ctl, put_on, direction, is_same_link}
+use Rattle.transcript.specs.Bearers.{Established, established, latest, generation, is_same_dir, submission, submitted, confirms, confirmed, tag_of, told, open_command, at_submitter, unless_opening, master_key, key_in}
+use Rattle.transcript.specs.Claims.{TakesData, Protects, ProtectsSubmission, IsLicensed, submit_answer}
+use Rattle.dc_world.specs.Entities.{Entities, bearer_in, with_bearer}
+use Rattle.dc_world.specs.Plane.{leg, other, ciphered, data_flight}
+use Rattle.dc_world.specs.Control.{Nodes}
+use Rattle.dc_world.specs.Links.{Links, on, moved}
+use Rattle.dc_world.specs.Run.{WorldState}
+use Rattle.transcript.proofs.Establishing.{submitted-next, tags_sent-next, same_bearer, is_latest_once, is_generation_once, established_drawn}
+use Rattle.dc_world.proofs.Lists.{slice_get_last}
+use Rattle.dc_world.proofs.Lane.{IsLane, low_is, lane_taken}
+use Rattle.dc_world.proofs.Taking.{is_data_flight}
+use Rattle.dc_world.proofs.Tables.{with_sender, is_established}
+use Rattle.dc_world.proofs.Contents.{on_moved}
+use Rattle.dc_world.proofs.Changing.{IsPlain, plans_same, generation_same, there_then, there_before, Keeps, keeps_changed, half_at, half_here, Apart, parted, sender_after, sender_apart, tabled_same, grows_same, phase_same, served_next, served_still, no_ups, no_frees, no_move, under_way_left}
+use Rattle.dc_world.proofs.Sound.{half, sender_table, receiver_table, IsPduOf, IsUnderWay, PromiseOf, Phase, listed, IsServed, NoneSent, Happened, Sound}
+
+-- ---- the sending entity
+
+-- Low stays where one more is kept, under the next COUNT
+least_push : (next : ℕ) (p : List ℕ) (es : List Kept) → least (next + 1) (es ++ (next, p) ∷ []) ≡ least next es
+least_push next p [] = omega arith
+least_push next p (x ∷ es) = let rest = least_push next p es in omega arith
+
+-- why a submission is taken, and that Low stays
+record HasRoom (s after : Sender) : Type 0 where
+  room : s.next < low s + window s.n
+  left : s.next ≡ 2 ^ 32 - 1 → ⊥
+  still : low after ≡ low s
+
+-- a submission that is taken had room
+has_room : (s after : Sender) (p : List ℕ) (c : ℕ) → taken s p ≡ Ok (after, c) → HasRoom s after
+has_room s after p c ok =
+    elim (cases_Bool (nat_le (low s + window s.n) s.next)) [
+      | inl full ↦ let f = rw full at ok in absurd (cc (f))
+      | inr room ↦
+          let f = rw room at ok in
+          elim (cases_Bool (s.next == 2 ^ 32 - 1)) [
+            | inl last ↦ let g = rw last at f in absurd (cc (g))
+            | inr left ↦
+                let g = rw left at f in
+                let is : ◌≡◌ {A = Sender × ℕ} (record s { next = s.next + 1; kept = s.kept ++ (s.next, p) ∷ [] }, s.next) (after, c) = cc (g) in
+                record {
+                  room = leb-false _ _ room;
+                  left = eqb-false _ _ left;
+                  still = ap low (sym (ap (λ (q : Sender × ℕ). q.0) is)) ∙ least_push s.next p s.kept;
+                }
+          ]
+    ]
+
+-- the PDU of a number, where one more was sent
+listed_push : (xs : List ℕ) (c num : ℕ) → listed (slice_get xs num) ++ (if length xs == num then c ∷ [] else []) ≡ listed (slice_get (xs ++ c ∷ []) num)
+listed_push [] c zero = refl
+listed_push [] c (suc num) = grind (arith, nat_tests)
+listed_push (x ∷ xs) c zero = grind (arith, nat_tests)
+listed_push (x ∷ xs) c (suc num) = grind (arith, nat_tests, listed_push xs c num)
+
+-- ---- links and directions
+
+-- the PDU is no command
+no_command : (d : Dir) (f : Flight) → put_on mt_ctl (line.Send (leg d) f ∷ []) ≡ []
+no_command Dl f = refl
+no_command Ul f = refl
+
+-- and answers none
+no_completion : (d : Dir) (f : Flight) → put_on tm_ctl (line.Send (leg d) f ∷ []) ≡ []
+no_completion Dl f = refl
+no_completion Ul f = refl
+
+-- it stands on the leg of its direction
+own_leg : (d : Dir) (f : Flight) → put_on (leg d) (line.Send (leg d) f ∷ []) ≡ f ∷ []
+own_leg Dl f = refl
+own_leg Ul f = refl
+
+-- the leg of a direction carries it
+direction_leg : (d : Dir) → direction (leg d) ≡ d
+direction_leg Dl = refl
+direction_leg Ul = refl
+
+-- a leg is the same as itself
+same_leg : (d : Dir) → is_same_link (leg d) (leg d) ≡ true
+same_leg Dl = refl
+same_leg Ul = refl
+
+-- the legs of the two directions are two
+other_leg : (d : Dir) → is_same_link (leg (other d)) (leg d) ≡ false
+other_leg Dl = refl
+other_leg Ul = refl
+
+-- a direction is the same as itself
+same_dir : (d : Dir) → is_same_dir d d ≡ true
+same_dir Dl = refl
+same_dir Ul = refl
+
+-- the two directions are two
+other_dir : (d : Dir) → is_same_dir d (other d) ≡ false
+other_dir Dl = refl
+other_dir Ul = refl
+
+-- a PDU of the direction of its leg is promised
+promised : (h : Header) (t : List Entry) (s : Nodes) (d : Dir) (f : Flight) → IsPduOf h t d f → PromiseOf h t s (leg d, f)
+promised h t s Dl f pdu = inl pdu
+promised h t s Ul f pdu = inl pdu
+
+-- the new flight stands at the end of its leg
+under_way_last : (b : Established) (c : ℕ) (fs : List Flight) (f : Flight) → IsUnderWay b c (f ∷ []) → IsUnderWay b c (fs ++ f ∷ [])
+under_way_last b c [] f under = under
+under_way_last b c (x ∷ fs) f under = inr (under_way_last b c fs f under)
+
+-- a test that fails
+not_le : (m n : ℕ) → n < m → nat_le m n ≡ false
+not_le m n less = grind (arith, nat_tests)
+
+module _ (h : Header) (policies : ℕ) (t : List Entry) (w : WorldState) (sound : Sound h policies t w) where
+  -- a bearer that can be submitted to is not the one whose command is open
+  not_opening : (d : Dir) (id : ℕ) (e : Entities) → bearer_in (sender_table d w.nodes) id ≡ Some e → at_submitter d id t ≡ Some e.bearer
+      → (b : Established) → Contains (established t) b → w.nodes.busy ≡ Some b.g → bearer_in w.nodes.terminal b.id ≡ None → (id == b.id) ≡ false
+  not_opening Dl id e at there b at' busy absent =
+      elim (cases_Bool (id == b.id)) [
+        | inl same ↦
+            let opened : open_command t ≡ Some b.g = sym sound.tables.busy_is ∙ busy in
+            let found : latest id (established t) ≡ Some b = ap (λ k. latest k (established t)) (eqb-true id b.id same) ∙ sound.tables.once b at' in
+            let none : unless_opening (open_command t) (latest id (established t)) ≡ None =
+            ap (λ o. unless_opening o (latest id (established t))) opened ∙ ap (unless_opening (Some b.g)) found ∙ cond-true _ _ _ (eq-eqb b.g b.g refl) in
+            absurd (none-some e.bearer (sym none ∙ there))
+        | inr apart ↦ apart
+      ]
+  not_opening Ul id e at there b at' busy absent =
+      elim (cases_Bool (id == b.id)) [
+        | inl same ↦ absurd (none-some e (sym absent ∙ ap (bearer_in w.nodes.terminal) (sym (eqb-true id b.id same)) ∙ at))
+        | inr apart ↦ apart
+      ]
+
+  module _ (id : ℕ) (d : Dir) (payload : List ℕ) (e : Entities) (tx : Sender) (c : ℕ) (good : IsPayload payload)
+      (at : bearer_in (sender_table d w.nodes) id ≡ Some e) (there : at_submitter d id t ≡ Some e.bearer) (ok : taken e.tx payload ≡ Ok (tx, c)) where
+    -- the bearer
+    abbrev b : Established
+    b = e.bearer
+
+    -- its new PDU
+    abbrev f : Flight
+    f = data_flight h b d (length e.sent) c payload
+
+    -- what happens
+    abbrev entry : Entry
+    entry = record { event = Submit id d payload; answer = answer.Ok; lines = line.Send (leg d) f ∷ [] }
+
+    -- what the node holds of the bearer then
+    abbrev e' : Entities
+    e' = record e { tx = tx; sent = e.sent ++ c ∷ [] }
+
+    -- what the nodes hold then
+    abbrev after : Nodes
+    after = with_sender d w.nodes (with_bearer (sender_table d w.nodes) id (Some e'))
+
+    -- what the links hold then
+    abbrev links' : Links
+    links' = moved w.links None entry.lines
+
+    -- the bearer is established
+    here : Contains (established t) b
+    here = (is_established t w.nodes sound.tables d id e at).0
+
+    -- under the identity that was named
+    named : b.id ≡ id
+    named = (is_established t w.nodes sound.tables d id e at).1
+
+    -- no generation is drawn
+    plain : IsPlain entry
+    plain = record { no_plan = λ g. refl; no_draw = refl; no_end = λ g. refl; no_set = λ k has. refl }
+
+    -- each bearer keeps its receiving side
+    keeps : Keeps w.nodes after
+    keeps = keeps_changed d w.nodes id e e' at refl refl
+
+    -- another established bearer of the identity is none
+    the_bearer : (b' : Established) → Contains (established t) b' → b'.id ≡ id → b' ≡ b
+    the_bearer b' at' same = same_bearer (established t) b' b sound.tables.once at' here (same ∙ sym named)
+
+    -- ---- what the entry says
+
+    -- the payload is one of the bearer
+    submission_here : submission b d t entry ≡ payload ∷ []
+    submission_here = rw (eq-eqb id b.id (sym named), same_dir d, is_latest_once t b sound.tables.once here) refl
+
+    -- and of no other
+    submission_apart : (b' : Established) (d' : Dir) → Apart d id d' b'.id → submission b' d' t entry ≡ []
+    submission_apart b' d' (inl turned) =
+        let other' : is_same_dir d d' ≡ false = ap (is_same_dir d) turned ∙ other_dir d in
+        elim (cases_Bool (id == b'.id)) [ inl same ↦ rw (same, other') refl | inr apart ↦ rw apart refl ]
+    submission_apart b' d' (inr apart) = rw apart refl
+
+    -- the COUNT is sent under the next number
+    tag_here : (num : ℕ) → flat_map (tag_of (leg d) b.id b.g num) (sends entry.lines) ≡ (if length e.sent == num then c ∷ [] else [])
+    tag_here num = rw (same_leg d, eq-eqb b.id b.id refl, eq-eqb b.g b.g refl) (append-nil _)
+
+    -- and for no other bearer or direction
+    tag_apart : (b' : Established) (d' : Dir) (num : ℕ) → Apart d id d' b'.id → flat_map (tag_of (leg d') b'.id b'.g num) (sends entry.lines) ≡ []
+    tag_apart b' d' num (inl turned) =
+        let other' : is_same_link (leg d') (leg d) ≡ false = ap (λ k. is_same_link (leg k) (leg d)) turned ∙ other_leg d in
+        rw other' refl
+    tag_apart b' d' num (inr apart) =
+        let other' : (b.id == b'.id) ≡ false = ap (λ k. k == b'.id) named ∙ apart in
+        elim (cases_Bool (is_same_link (leg d') (leg d))) [ inl same ↦ rw (same, other') refl | inr turned ↦ rw turned refl ]
+
+    -- nothing is confirmed
+    nothing_confirmed : (b' : Established) (d' : Dir) → confirms b' d' t entry ≡ []
+    nothing_confirmed b' Dl = refl
+    nothing_confirmed b' Ul = refl
+
+    -- what stands on the links then
+    on_then : (l : LinkId) → on links' l ≡ on w.links l ++ put_on l entry.lines
+    on_then l = on_moved w.links None entry.lines l sound.long
+
+    -- what was under way is so
+    flying : (b' : Established) (d' : Dir) (k : ℕ) → IsUnderWay b' k (on w.links (leg d')) → IsUnderWay b' k (on links' (leg d'))
+    flying b' d' k under = subst (IsUnderWay b' k) (sym (on_then (leg d'))) (under_way_left b' k (on w.links (leg d')) (put_on (leg d') entry.lines) under)
+
+    -- ---- the bearer
+
+    -- what the node held of it
+    half_before : half b (sender_table d w.nodes) ≡ e
+    half_before = half_at b (sender_table d w.nodes) id e at named
+
+    -- and holds then
+    half_after : half b (sender_table d after) ≡ e'
+    half_after = ap (half b) (sender_after d w.nodes (with_bearer (sender_table d w.nodes) id (Some e'))) ∙ half_here b (sender_table d w.nodes) id e e' at named
+
+    -- the bearer was served
+    was : IsServed t w.nodes w.links b d
+    was = sound.served b d here
+
+    -- so was what the node held
+    lane : IsLane b.n b.first (submitted b d t) (confirmed b d t) e.tx e.sent (half b (receiver_table d w.nodes)).rx
+    lane = subst (λ (x : Entities). IsLane b.n b.first (submitted b d t) (confirmed b d t) x.tx x.sent (half b (receiver_table d w.nodes)).rx) half_before was.lane
+
+    -- and what it holds then, with the next COUNT
+    taken_lane : (c ≡ b.first + length (submitted b d t)) × IsLane b.n b.first (submitted b d t ++ payload ∷ []) (confirmed b d t) tx (e.sent ++ c ∷ []) (half b (receiver_table d w.nodes)).rx
+    taken_lane = lane_taken b.n b.first (submitted b d t) (confirmed b d t) e.tx e.sent (half b (receiver_table d w.nodes)).rx lane payload tx c ok
+
+    -- as many PDUs were sent as payloads submitted
+    sent_long : length e.sent ≡ length (submitted b d t)
+    sent_long = ap (λ (ks : List ℕ). length ks) lane.sent_are ∙ length-range_with_len b.first (length (submitted b d t))
+
+    -- each COUNT that was sent is received or under way
+    owed_here : (k : ℕ) → b.first ≤ k → k < tx.next → Received (half b (receiver_table d w.nodes)).rx k ⊎ IsUnderWay b k (on links' (leg d))
+    owed_here k from below =
+        let counted : c ≡ b.first + length (submitted b d t) = taken_lane.0 in
+        let counted' : tx.next ≡ b.first + length (submitted b d t ++ payload ∷ []) = taken_lane.1.counted in
+        let more : length (submitted b d t ++ payload ∷ []) ≡ length (submitted b d t) + 1 = length_push (submitted b d t) payload in
+        let before : e.tx.next ≡ b.first + length (submitted b d t) = lane.counted in
+        elim (cases_lt k e.tx.next) [
+          | inl less ↦
+              elim (was.owed k from (subst (λ (x : Entities). k < x.tx.next) (sym half_before) less)) [ inl got ↦ inl got | inr under ↦ inr (flying b d k under) ]
+          | inr most ↦
+              let last : c ≡ k = omega arith in
+              let new : IsUnderWay b k (f ∷ []) = inl (refl, refl, ap Some last) in
+              inr (subst (IsUnderWay b k) (sym (on_then (leg d) ∙ ap (λ fs. on w.links (leg d) ++ fs) (own_leg d f))) (under_way_last b k (on w.links (leg d)) f new))
+        ]
+
+    -- the bearer is served
+    served_here : IsServed (t ++ entry ∷ []) after links' b d
+    served_here =
+        let xs' : submitted b d t ++ submission b d t entry ≡ submitted b d t ++ payload ∷ [] = ap (λ xs. submitted b d t ++ xs) submission_here in
+        let cs' : confirmed b d t ++ confirms b d t entry ≡ confirmed b d t = ap (λ cs. confirmed b d t ++ cs) (nothing_confirmed b d) ∙ append-nil (confirmed b d t) in
+        let rx : RxParts = (half b (receiver_table d w.nodes)).rx in
+        served_next t entry plain w.nodes after keeps w.links links' b d was (no_ups b d t entry refl)
+        (subst (λ (x : Entities). IsLane b.n b.first (submitted b d t ++ submission b d t entry) (confirmed b d t ++ confirms b d t entry) x.tx x.sent rx) (sym half_after)
+        (subst (λ xs. IsLane b.n b.first xs (confirmed b d t ++ confirms b d t entry) tx (e.sent ++ c ∷ []) rx) (sym xs')
+        (subst (λ cs. IsLane b.n b.first (submitted b d t ++ payload ∷ []) cs tx (e.sent ++ c ∷ []) rx) (sym cs') taken_lane.1)))
+        (λ k from below. owed_here k from (subst (λ (x : Entities). k < x.tx.next) half_after below))
+        (λ num.
+        ap (λ xs. xs ++ flat_map (tag_of (leg d) b.id b.g num) (sends entry.lines)) (was.numbers num ∙ ap (λ (x : Entities). listed (slice_get x.sent num)) half_before)
+        ∙ ap (λ xs. listed (slice_get e.sent num) ++ xs) (tag_here num)
+        ∙ listed_push e.sent c num
+        ∙ ap (λ (x : Entities). listed (slice_get x.sent num)) (sym half_after))
+
+    -- so is every other
+    served_all : (b' : Established) (d' : Dir) → Contains (established t) b' → IsServed (t ++ entry ∷ []) after links' b' d'
+    served_all b' d' at' =
+        elim (parted d id d' b'.id) [
+          | inl same ↦
+              subst (λ k. IsServed (t ++ entry ∷ []) after links' b' k) (sym same.0)
+              (subst (λ x. IsServed (t ++ entry ∷ []) after links' x d) (sym (the_bearer b' at' same.1)) served_here)
+          | inr apart ↦
+              served_still t entry plain w.nodes after keeps w.links links' b' d' (sound.served b' d' at') (no_ups b' d' t entry refl)
+              (submission_apart b' d' apart) (nothing_confirmed b' d') (λ num. tag_apart b' d' num apart)
+              (sender_apart d w.nodes id (Some e') b' d' apart) (flying b' d')
+        ]
+
+    -- ---- the PDU
+
+    -- the payload stands under its COUNT
+    submission_then : slice_get (submitted b d (t ++ entry ∷ [])) (c - b.first) ≡ Some payload
+    submission_then =
+        let counted : c ≡ b.first + length (submitted b d t) = taken_lane.0 in
+        let place : length (submitted b d t) ≡ c - b.first = omega arith in
+        ap (λ xs. slice_get xs (c - b.first)) (submitted-next b d t entry ∙ ap (λ xs. submitted b d t ++ xs) submission_here)
+        ∙ subst (λ k. slice_get (submitted b d t ++ payload ∷ []) k ≡ Some payload) place (slice_get_last (submitted b d t) payload)
+
+    -- the PDU protects it
+    protected : ProtectsSubmission h (t ++ entry ∷ []) b d b.g (Some c) (data_pdu b.n (sn b.n c) (ciphered h b.id d c payload))
+    protected =
+        let counted : c ≡ b.first + length (submitted b d t) = taken_lane.0 in
+        record {
+          count = c;
+          tagged = refl;
+          counted = omega arith;
+          sdu = payload;
+          submission = submission_then;
+          key = master_key 0;
+          keyed = ap (key_in b.g b.id) (plans_same t entry plain) ∙ sound.tables.keyed b here;
+          spelled = refl;
+        }
+
+    -- and is of no other bearer
+    protects_all : (b' : Established) (d' : Dir) → Contains (established (t ++ entry ∷ [])) b' → Protects h b' d' t entry
+    protects_all b' d' at' = (
+      λ is.
+          let same : b' ≡ b = the_bearer b' (there_before t entry plain b' at') (sym is.1 ∙ named) in
+          let dir : d' ≡ d = sym (sym (direction_leg d) ∙ is.3) in
+          let pdu : List ℕ = data_pdu b.n (sn b.n c) (ciphered h b.id d c payload) in
+          subst (λ k. ProtectsSubmission h (t ++ entry ∷ []) b' k b.g (Some c) pdu) (sym dir)
+          (subst (λ x. ProtectsSubmission h (t ++ entry ∷ []) x d b.g (Some c) pdu) (sym same) protected),
+      tt,
+    )
+
+    -- so its promise holds
+    pdu : IsPduOf h (t ++ entry ∷ []) d f
+    pdu =
+        let counted : c ≡ b.first + length (submitted b d t) = taken_lane.0 in
+        let long = sent_long in
+        let place : length e.sent ≡ c - b.first = omega arith in
+        record {
+          bearer = b;
+          there = there_then t entry plain b here;
+          count = c;
+          payload = payload;
+          good = good;
+          submission = record { counted = omega arith; payload = submission_then };
+          is = ap (λ k. data_flight h b d k c payload) place;
+        }
+
+    -- ---- the other claims
+
+    -- Low stays
+    low_still : (b' : Established) (d' : Dir) → Contains (established t) b' → low (half b' (sender_table d' after)).tx ≡ low (half b' (sender_table d' w.nodes)).tx
+    low_still b' d' at' =
+        elim (parted d id d' b'.id) [
+          | inl same ↦
+              let here' : low (half b (sender_table d after)).tx ≡ low (half b (sender_table d w.nodes)).tx =
+              ap (λ (x : Entities). low x.tx) half_after ∙ (has_room e.tx tx payload c ok).still ∙ sym (ap (λ (x : Entities). low x.tx) half_before) in
+              subst (λ k. low (half b' (sender_table k after)).tx ≡ low (half b' (sender_table k w.nodes)).tx) (sym same.0)
+              (subst (λ x. low (half x (sender_table d after)).tx ≡ low (half x (sender_table d w.nodes)).tx) (sym (the_bearer b' at' same.1)) here')
+          | inr apart ↦ ap (λ (x : Entities). low x.tx) (sender_apart d w.nodes id (Some e') b' d' apart)
+        ]
+
+    -- there was room, and a COUNT was left
+    due : submit_answer d t (Some b) ≡ answer.Ok
+    due =
+        let next = b.first + length (submitted b d t) in
+        let took = has_room e.tx tx payload c ok in
+        let room = took.room in let left = took.left in
+        let counted : e.tx.next ≡ b.first + length (submitted b d t) = lane.counted in
+        let same : window e.tx.n ≡ window b.n = ap window lane.tx_length in
+        let told_is : low e.tx ≡ told b d t = low_is b.n b.first (submitted b d t) (confirmed b d t) e.tx e.sent (half b (receiver_table d w.nodes)).rx lane in
+        cond-false _ _ _ (not_le (told b d t + window b.n) next (omega arith)) ∙ cond-false _ _ _ (ne_eqb next (2 ^ 32 - 1) (λ is. left (omega arith)))
+
+    -- the PDU is sent for its submission
+    licence : IsLicensed h t entry
+    licence =
+        let counted : c ≡ b.first + length (submitted b d t) = taken_lane.0 in
+        record {
+          reasons = (
+            (
+              is_data_flight h d b c payload,
+              record {
+                sdu = payload;
+                submits = ap (λ k. Submit k d payload) (sym named) ∙ ap (λ k. Submit b.id k payload) (sym (direction_leg d));
+                accepted = refl;
+                bearer = b;
+                of_bearer = sound.tables.once b here;
+                of_generation = is_generation_once t b sound.tables.once here;
+                tagged = ap Some counted ∙ ap (λ k. Some (b.first + length (submitted b k t))) (sym (direction_leg d));
+              },
+            ),
+            tt,
+          );
+          one = omega arith;
+        }
+
+    -- under a generation that was drawn
+    none_sent : NoneSent (t ++ entry ∷ [])
+    none_sent l k g num later =
+        let before : generation t < g = subst (λ n. n < g) (generation_same t entry plain) later in
+        let drawn : b.g ≤ generation t = established_drawn t b here in
+        let none : flat_map (tag_of l k g num) (sends entry.lines) ≡ [] =
+        (let unlike : (b.g == g) ≡ false = ne_eqb b.g g (λ is. omega arith) in
+        elim (cases_Bool (is_same_link l (leg d))) [
+          | inl same ↦ elim (cases_Bool (b.id == k)) [ inl named' ↦ rw (same, named', unlike) refl | inr apart ↦ rw (same, apart) refl ]
+          | inr apart ↦ rw apart refl
+        ]) in
+        tags_sent-next l k g num t entry ∙ ap (λ xs. xs ++ flat_map (tag_of l k g num) (sends entry.lines)) (sound.none_sent l k g num before) ∙ none
+
+    -- the command stands where it stood
+    phase : Phase h (t ++ entry ∷ []) after links'
+    phase =
+        phase_same t entry plain w.nodes after keeps h w.links links'
+        (on_then mt_ctl ∙ ap (λ fs. on w.links mt_ctl ++ fs) (no_command d f) ∙ append-nil (on w.links mt_ctl))
+        (on_then tm_ctl ∙ ap (λ fs. on w.links tm_ctl ++ fs) (no_completion d f) ∙ append-nil (on w.links tm_ctl))
+        (λ b' at' busy absent d'. submission_apart b' d' (inr (not_opening d id e at there b' at' busy absent)))
+        sound.phase
+
+    -- so all is kept
+    happened : Happened h policies t w entry after
+    happened = record {
+      tables = tabled_same t entry plain w.nodes after keeps sound.tables;
+      phase = phase;
+      served = λ b' d' at'. served_all b' d' (there_before t entry plain b' at');
+      grows = grows_same t entry plain w.nodes after keeps;
+      sent = (promised h (t ++ entry ∷ []) after d f pdu, tt);
+      none_sent = none_sent;
+      protects = protects_all;
+      carried = λ b' d' at'. subst (AllByRecursion (λ up. SomeEntry (TakesData b' d' up.0) (t ++ entry ∷ []))) (sym (no_ups b' d' t entry refl)) tt;
+      freed = λ b' d' at'.
+          let before = low (half b' (sender_table d' w.nodes)).tx in
+          no_frees b' d' t entry refl
+          ∙ subst (λ k. [] ≡ (if nat_lt before k then k ∷ [] else [])) (sym (low_still b' d' (there_before t entry plain b' at'))) (sym (no_move before));
+      fresh_before = λ b' at'. inl (there_before t entry plain b' at');
+      cause = sym (ap (submit_answer d t) there ∙ due);
+      licence = licence;
+    }
+
+  -- a payload is submitted and taken
+  pub submitted_happened : (id : ℕ) (d : Dir) (payload : List ℕ) (e : Entities) (tx : Sender) (c : ℕ) → IsPayload payload
+      → bearer_in (sender_table d w.nodes) id ≡ Some e → at_submitter d id t ≡ Some e.bearer → taken e.tx payload ≡ Ok (tx, c)
+      → Happened h policies t w
+      (record { event = Submit id d payload; answer = answer.Ok; lines = line.Send (leg d) (data_flight h e.bearer d (length e.sent) c payload) ∷ [] })
+      (with_sender d w.nodes (with_bearer (sender_table d w.nodes) id (Some (record e { tx = tx; sent = e.sent ++ c ∷ [] }))))
+  submitted_happened id d payload e tx c good at there ok = happened id d payload e tx c good at there ok

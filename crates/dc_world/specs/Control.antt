@@ -1,0 +1,83 @@
+-- The rules of the control plane (TS 37.340, 10): how a bearer is set up at the master and at the terminal.
+use Rattle.std.specs.Prelude.{ℕ, ◌+◌, ◌==◌, nat_le, not, if◌then◌else◌, Bool, false, List, [], ◌∷◌, ◌++◌, fold, Option, Some, None, is_some}
+use Rattle.dc_base.specs.declared.numbers.SnLen.{SnLen}
+use Rattle.dc_base.specs.declared.nodes.Node.TheVariants.{M}
+use Rattle.dc_base.specs.declared.nodes.Shape.{Shape}
+use Rattle.dc_base.specs.declared.flights.Flight.{Flight}
+use Rattle.dc_base.specs.declared.flights.Flight.TheVariants as flight
+use Rattle.dc_base.specs.declared.records.Item.{Item}
+use Rattle.dc_base.specs.declared.records.Item.TheVariants.{Set, Unset}
+use Rattle.dc_base.specs.declared.records.Plan.{Plan}
+use Rattle.dc_base.specs.declared.records.Rec.TheVariants.{Reconf, Rcomp}
+use Rattle.dc_base.specs.declared.answers.Answer.TheVariants as answer
+use Rattle.dc_base.specs.declared.answers.Refusal.TheVariants.{BearerThere, Busy, NoSecondary, NoPolicy}
+use Rattle.dc_base.specs.declared.events.Header.{Header}
+use Rattle.dc_base.specs.declared.events.Line.{Line}
+use Rattle.dc_base.specs.declared.events.Line.TheVariants as line
+use Rattle.dc_base.specs.declared.events.Note.TheVariants as note
+use Rattle.transcript.specs.Content.{mt_ctl, tm_ctl}
+use Rattle.transcript.specs.Bearers.{Established, master_key}
+use Rattle.transcript.specs.Claims.{is_mm}
+use Rattle.dc_world.specs.Entities.{Entities, Table, fresh, no_bearers, bearer_in, with_bearer}
+use Rattle.dc_world.specs.Plane.{Outcome}
+
+-- the master and the terminal: the last generation drawn, the one whose command is open, and the bearers of each node
+pub record Nodes : Type 0 where
+  pub drawn : ℕ
+  pub busy : Option ℕ
+  pub master : Table
+  pub terminal : Table
+
+-- both without a bearer
+abbrev pub new_nodes : Nodes
+new_nodes = record { drawn = 0; busy = None; master = no_bearers; terminal = no_bearers }
+
+-- the bearer of this command
+abbrev pub opened : ℕ → ℕ → SnLen → ℕ → Established
+opened g id n first = record { g = g; id = id; n = n; first = first }
+
+-- the plan that sets it up at the master
+abbrev pub plan_for : ℕ → ℕ → SnLen → ℕ → Shape → ℕ → ℕ → Plan
+plan_for g id n first shape threshold policy =
+    record { g = g; sec = None; items = Set id n first shape threshold policy (master_key 0) None ∷ [] }
+
+-- the master sets a bearer up: its anchor is active, and the terminal is told the plan
+abbrev pub set_up : Header → Nodes → ℕ → SnLen → ℕ → Shape → ℕ → ℕ → Nodes × Outcome
+set_up h s id n first shape threshold policy =
+    let g = s.drawn + 1 in (
+      record s { drawn = g; busy = Some g; master = with_bearer s.master id (Some (fresh (opened g id n first))) },
+      (answer.Ok, line.Note (note.Own M id g) ∷ line.Send mt_ctl (flight.Ctl (Reconf (plan_for g id n first shape threshold policy) h.root)) ∷ []),
+    )
+
+-- a new bearer is commanded, where there are so many policies
+abbrev pub commanded : ℕ → Header → Nodes → ℕ → SnLen → ℕ → Shape → ℕ → ℕ → Nodes × Outcome
+commanded policies h s id n first shape threshold policy =
+    if is_some s.busy then (s, (answer.No Busy, []))
+    else if is_some (bearer_in s.master id) then (s, (answer.No BearerThere, []))
+    else if not (is_mm shape) then (s, (answer.No NoSecondary, []))
+    else if nat_le policies policy then (s, (answer.No NoPolicy, []))
+    else set_up h s id n first shape threshold policy
+
+-- the terminal takes an item of a plan: a bearer of this generation, or one that is dropped
+abbrev pub item_taken : ℕ → Table × List Line → Item → Table × List Line
+item_taken g done (Set id n first shape threshold policy key old) =
+    (with_bearer done.0 id (Some (fresh (opened g id n first))), done.1 ++ line.Note (note.Set id g) ∷ [])
+item_taken g done (Unset id) = (with_bearer done.0 id None, done.1 ++ line.Note (note.Unset id) ∷ [])
+
+-- the terminal takes a record from the master
+abbrev pub told_terminal : Nodes → Flight → Nodes × List Line
+told_terminal s (flight.Ctl (Reconf plan root)) =
+    let done = fold (item_taken plan.g) (s.terminal, []) plan.items in
+    (record s { terminal = done.0 }, done.1 ++ line.Send tm_ctl (flight.Ctl (Rcomp plan.g)) ∷ [])
+told_terminal s _ = (s, [])
+
+-- whether this generation's command is open
+abbrev pub is_open : Option ℕ → ℕ → Bool
+is_open None g = false
+is_open (Some opening) g = opening == g
+
+-- the master takes a record from the terminal: the reconfiguration of the open command is complete
+abbrev pub told_master : Nodes → Flight → Nodes × List Line
+told_master s (flight.Ctl (Rcomp g)) =
+    if is_open s.busy g then (record s { busy = None }, line.Note note.Done ∷ []) else (s, [])
+told_master s _ = (s, [])
