@@ -1,10 +1,11 @@
 //! The header of a run, with the key of its user plane.
 
-ghost use Rattle.std.specs.Prelude.{◌≡◌};
+ghost use Rattle.std.specs.Prelude.{◌≡◌, ◌≤◌, length, IfOk};
+ghost use Rattle.dc_world.specs.Plane.{ciphered};
 
-use dc_base::{Alg, Header};
+use dc_base::{Alg, Dir, DrbId, Header, Memory, Octets};
 use key_chain::k_upenc;
-use nea2::Aes128;
+use nea2::{Aes128, nea};
 use std::alloc::Global;
 use std::marker::Model;
 
@@ -56,5 +57,18 @@ impl Ciphering {
         ensures { result ≡ self.now.root }
     {
         self.header.root
+    }
+
+    /// A payload combined with the keystream of its COUNT: ciphered, or deciphered again.
+    pub fn ciphered(&self, id: DrbId, dir: Dir, count: u32, text: &[u8]) -> Result<Octets, Memory>
+        requires { length text.now ≤ 9000 }
+        ensures value { IfOk result (λ made. made ≡ ciphered self.now id dir count text.now) }
+        ensures len { IfOk result (λ made. length made ≡ length text.now) }
+    {
+        let Ok(mut octets) = Vec::from_slice(self.alloc, text) else {
+            return Err(Memory);
+        };
+        nea(self.header.alg, &self.key, count, id, dir, octets.as_mut_slice());
+        Ok(Octets::from_vec(octets))
     }
 }

@@ -6,6 +6,7 @@ mod counted;
 mod entities;
 mod links;
 mod nodes;
+mod plane;
 mod table;
 mod world;
 

@@ -1,6 +1,6 @@
 //! The links, each with its flights in order.
 
-ghost use Rattle.std.specs.Prelude.{◌≡◌, ℕ, ◌<◌, ◌++◌, ◌∷◌, [], length, slice_get, nat_lt, Some, IfOk, OnOk};
+ghost use Rattle.std.specs.Prelude.{◌≡◌, ℕ, ◌<◌, ◌++◌, ◌∷◌, [], length, fold, remove, slice_get, nat_lt, IfOk, OnOk};
 ghost use Rattle.std.specs.List.{find};
 ghost use Rattle.std.specs.Option.{option_copied};
 ghost use Rattle.transcript.specs.Content.{node_number, class_number, link_number, all_links};
@@ -49,6 +49,13 @@ impl Link {
         self.flights.get(index)
     }
 
+    // The flight at this place is taken away, if there is such a place.
+    fn take_out(&mut self, index: usize)
+        ensures { self.new ≡ remove self.old index }
+    {
+        discard(self.flights.remove(index));
+    }
+
     fn put(&mut self, flight: Flight) -> Result<(), Memory>
         ensures { OnOk result (self.new ≡ self.old ++ flight ∷ []) }
     {
@@ -58,6 +65,9 @@ impl Link {
         }
     }
 }
+
+// Lets a flight go that was taken.
+fn discard(_flight: Option<Flight>) {}
 
 /// All links by their numbers. A step at the front of a link, however long, takes the same time.
 #[derive(Drop)]
@@ -180,6 +190,27 @@ impl LinkSet {
         ensures { OnOk result (self.new ≡ put_on_one self.old (link, flight)) }
     {
         self.links[link_number(link)].put(flight)
+    }
+
+    /// The flight at a place is taken away, if there is such a place.
+    pub fn take_out(&mut self, place: Option<(LinkId, u32)>)
+        ensures { self.new ≡ taken_out self.old place }
+    {
+        if let Some((link, index)) = place {
+            self.links[link_number(link)].take_out(index as usize);
+        }
+    }
+
+    /// Copies of the sends of these lines are put on their links, in order. After `Memory` the links are not used again.
+    pub fn put_sends(&mut self, lines: &[Line]) -> Result<(), Memory>
+        ensures { OnOk result (self.new ≡ fold put_on_one self.old (sends lines.now)) }
+    {
+        for line in lines {
+            if let Line::Send(link, flight) = line {
+                self.put(*link, flight.copy()?)?;
+            }
+        }
+        Ok(())
     }
 
     // The first of these links on which a flight stands.
