@@ -2,6 +2,7 @@
 #![tactic(auto)]
 
 mod ciphering;
+mod control;
 mod counted;
 mod entities;
 mod links;
