@@ -8,3 +8,5 @@ pub mod Gaps
 pub mod KeptLemmas
 pub mod Settled
 pub mod OnStatus
+pub mod Law
+pub mod Sending

@@ -5,3 +5,4 @@ pub mod Kept
 pub mod Delivery
 pub mod Outgoing
 pub mod Verdicts
+pub mod Ends

@@ -1,12 +1,16 @@
 //! What was sent in a tunnel, and what a delivery status says of it.
 
-ghost use Rattle.std.specs.Prelude.{◌≡◌, ℕ, ◌<◌, ◌^◌, [], not, length, map, filter, fold, List, Option, IfOk, OnOk, OnErr, IsPermutation};
+ghost use Rattle.std.specs.Prelude.{◌≡◌, ℕ, ◌<◌, ◌^◌, [], not, if◌then◌else◌, length, map, filter, fold, List, Option, IfOk, OnOk, OnErr, IsPermutation};
 ghost use Rattle.std.specs.List.Sorted.{IsSorted};
 ghost use Rattle.std.specs.Ordering.{nat_cmp};
 ghost use Rattle.std.specs.BTreeSet.{insert_key};
 ghost use Rattle.dc_base.specs.Count.{modulus};
 ghost use Rattle.nr_u.specs.Outgoing.{Counted, noted, with_sent, highest_of, is_listed, confirms, asks};
 ghost use Rattle.nr_u.specs.Verdicts.{after_frame, confirmed_of, again_of};
+ghost use Rattle.std.specs.List.{AllByRecursion};
+ghost use Rattle.nr_u.specs.Incoming.{Incoming};
+ghost use Rattle.nr_u.specs.Delivery.{status_of};
+ghost use Rattle.nr_u.specs.Ends.{IsOtherEnd, WasAcked};
 
 use crate::frame::{Frame, Range};
 use dc_base::{Memory, Seq, SnLen, infer};
@@ -47,10 +51,13 @@ impl Model for Outbound {
     ghost use Rattle.std.specs.Prelude.{◌≤◌, ◌^◌, length};
     ghost use Rattle.dc_base.specs.Count.{modulus};
     ghost use Rattle.nr_u.specs.Outgoing.{Outgoing};
+    ghost use Rattle.nr_u.specs.Ends.{AreFirstSends};
 
     ghost Value = { Outgoing };
 
     ghost view = { λ a. record { n = a.n; sent = a.sent.items; waiting = a.waiting.entries; unasked = a.unasked.entries; confirmed = a.confirmed.keys } };
+
+    ghost invariant = { λ a. AreFirstSends a.sent.items a.waiting.entries };
 }
 
 /// Notes the COUNT under its number, if there is one. After `Memory` the map is as before.
@@ -65,6 +72,22 @@ fn note(map: &mut BTreeMap<u32, u32>, number: u32, count: Option<u32>) -> Result
             Err(_) => Err(Memory),
         },
     }
+}
+
+/// Notes the COUNT of a first send under its number. After `Memory` the map is as before.
+fn note_first(
+    waiting: &mut BTreeMap<u32, u32>,
+    number: u32,
+    count: Option<u32>,
+    repeat: bool,
+) -> Result<(), Memory>
+    ensures ok { OnOk result (waiting.new.entries ≡ (if repeat then waiting.old.entries else noted count number waiting.old.entries)) }
+    ensures err { OnErr result (waiting.new.entries ≡ waiting.old.entries) }
+{
+    if repeat {
+        return Ok(());
+    }
+    note(waiting, number, count)
 }
 
 /// How many sequence numbers there are.
@@ -199,9 +222,7 @@ impl Outbound {
         if self.sent.push(Sent { count, repeat }).is_err() {
             return Err(Memory);
         }
-        if !repeat {
-            note(&mut self.waiting, number, count)?;
-        }
+        note_first(&mut self.waiting, number, count, repeat)?;
         note(&mut self.unasked, number, count)?;
         Ok(number)
     }
@@ -214,6 +235,8 @@ impl Outbound {
         // The COUNTs to send again, in ascending order.
         ensures again { IfOk result (λ v. IsPermutation (again_of self.old low f.now) v.again) }
         ensures ascending { IfOk result (λ v. IsSorted nat_cmp v.again) }
+        // The status of the other end confirms a COUNT only where its number came and was acked.
+        ensures acked { (i : Incoming) → IsOtherEnd self.old low i → f.now ≡ status_of i → IfOk result (λ v. AllByRecursion (WasAcked self.old i) v.confirmed) }
     {
         let Frame::Status { highest, lost } = f else {
             let confirmed = Seq::new(self.alloc);

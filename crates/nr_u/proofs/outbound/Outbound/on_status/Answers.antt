@@ -1,7 +1,8 @@
 use Rattle.std.proofs.Common.{ap, sym, ◌∙◌}
 use Rattle.std.specs.Prelude.{map}
 use Rattle.nr_u.specs.Outgoing.{Outgoing, Counted, with_status, asked_by}
-use Rattle.nr_u.proofs.OnStatus.{leaves, asked_counts}
+use Rattle.nr_u.proofs.OnStatus.{leaves, asked_counts, were_acked}
+use Rattle.nr_u.proofs.Sending.{firsts_filter}
 use Rattle.nr_u.proofs.outbound.Outbound.on_status.Goals as goal
 
 pub returns-clause-state : goal.returns-clause-state
@@ -19,3 +20,20 @@ returns-clause-again c =
 
 pub returns-clause-ascending : goal.returns-clause-ascending
 returns-clause-ascending c = rw c.from_vec-2.ensures c.sort_unstable.ensures.sorted
+
+pub invariant_of-self-in_err-add_all : goal.invariant_of-self-in_err-add_all
+invariant_of-self-in_err-add_all c =
+    rw c.in_ok-confirmed.ensures.left (firsts_filter c.self.inside.sent.items _ c.self.inside.waiting.entries c.self.invariant)
+
+pub invariant_of-self-in_err-again : goal.invariant_of-self-in_err-again
+invariant_of-self-in_err-again c =
+    rw c.in_ok-confirmed.ensures.left (firsts_filter c.self.inside.sent.items _ c.self.inside.waiting.entries c.self.invariant)
+
+pub invariant_of-self-2 : goal.invariant_of-self-2
+invariant_of-self-2 c =
+    rw c.in_ok-confirmed.ensures.left (firsts_filter c.self.inside.sent.items _ c.self.inside.waiting.entries c.self.invariant)
+
+pub returns-clause-acked : goal.returns-clause-acked
+returns-clause-acked c = λ i end is.
+    let inside : Outgoing = record { n = c.self.inside.n; sent = c.self.inside.sent.items; waiting = c.self.inside.waiting.entries; unasked = c.self.inside.unasked.entries; confirmed = c.self.inside.confirmed.keys } in
+    were_acked inside c.args.self.now c.args.low i c.args.f.now c.in-Status.highest c.in-Status.lost _ _ _ _ c.self.view_is c.self.invariant c.in-Status.is c.as_slice-lost.ensures c.highest_of-highest.ensures c.in_ok-confirmed.ensures.counts c.from_vec.ensures end is
