@@ -1,27 +1,27 @@
 -- A delivery status confirms what came and was acked, and nothing else.
-use Rattle.std.proofs.Common.{◌≡◌, ℕ, zero, suc, ◌+◌, ◌%◌, ◌^◌, ◌<◌, ◌≤◌, ◌⊎◌, ◌&&◌, ◌||◌, Bool, true, false, not, ltb, leb, List, [], ◌∷◌, take, Option, Some, None, is_some, refl, sym, ap, ◌∙◌, subst, inl, inr, arith}
+use Rattle.std.proofs.Common.{◌≡◌, ℕ, zero, suc, ◌+◌, ◌<◌, ◌≤◌, ◌⊎◌, ◌&&◌, ◌||◌, Bool, true, false, not, ltb, leb, List, [], ◌∷◌, take, Option, Some, None, is_some, refl, sym, ap, ◌∙◌, subst, inl, inr, arith}
 use Rattle.std.specs.Prelude.{◌≢◌, filter, map, take_while, option_map, option_and_then, slice_get}
-use Rattle.std.specs.List.{AllByRecursion, list_any}
+use Rattle.std.specs.List.{AllByRecursion}
 use Rattle.std.specs.Option.{IsSomeAnd}
-use Rattle.std.proofs.lemmas.Bool.{le-ltb, lt-ltb, ltb-true, le-leb, leb-true, cases_lt, cases_Bool, false≢true}
+use Rattle.std.proofs.lemmas.Bool.{lt-ltb, ltb-true, le-leb, leb-true, cases_lt, cases_Bool, false≢true}
 use Rattle.std.proofs.lemmas.List.Sums.{take_while-cons}
 use Rattle.dc_base.specs.declared.numbers.SnLen.{SnLen}
 use Rattle.dc_base.specs.declared.numbers.SnLen.TheVariants.{S12, S18}
-use Rattle.dc_base.specs.Count.{modulus, window, sn, count_for, IsCountFor}
+use Rattle.dc_base.specs.Count.{modulus, window, sn, count_for}
 use Rattle.dc_base.proofs.Counting.{count_for_finds, sn_small}
 use Rattle.nr_u.specs.declared.frame.Range.{Range}
 use Rattle.nr_u.specs.declared.frame.Frame.{Frame}
-use Rattle.nr_u.specs.declared.frame.Frame.TheVariants.{User, Status}
+use Rattle.nr_u.specs.declared.frame.Frame.TheVariants.{Status}
 use Rattle.nr_u.specs.declared.inbound.Arrival.{Arrival}
 use Rattle.nr_u.specs.declared.outbound.Sent.{Sent}
 use Rattle.nr_u.specs.Frames.{Rising}
 use Rattle.nr_u.specs.Incoming.{Incoming, Numbered, Ascends, has, contains, gaps, listed, is_below, is_first, last, settled, named}
-use Rattle.nr_u.specs.Kept.{next_after, IsMissing}
+use Rattle.nr_u.specs.Kept.{IsMissing}
 use Rattle.nr_u.specs.Delivery.{status_of}
 use Rattle.nr_u.specs.Outgoing.{Outgoing, Counted, highest_of, is_listed, confirms, confirmed_by}
 use Rattle.nr_u.specs.Verdicts.{confirmed_of}
-use Rattle.nr_u.specs.Ends.{first_send, AreFirstSends, FirstSendsRise, IsAsSent, CameAsSent, NamesNear, IsOtherEnd, WasAckedUnder, WasAcked}
-use Rattle.nr_u.proofs.ByNumber.{cmp_tells, next_after-above}
+use Rattle.nr_u.specs.Ends.{first_send, AreFirstSends, IsAsSent, IsOtherEnd, WasAckedUnder, WasAcked}
+use Rattle.nr_u.proofs.ByNumber.{cmp_tells}
 use Rattle.nr_u.proofs.Gaps.{gaps-missing, gaps-rising}
 use Rattle.nr_u.proofs.Settled.{has_before, has_head, has_other, next_bounds}
 

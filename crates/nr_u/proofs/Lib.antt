@@ -9,4 +9,5 @@ pub mod KeptLemmas
 pub mod Settled
 pub mod OnStatus
 pub mod Law
+pub mod Taking
 pub mod Sending

@@ -6,3 +6,4 @@ pub mod Delivery
 pub mod Outgoing
 pub mod Verdicts
 pub mod Ends
+pub mod Waiting
