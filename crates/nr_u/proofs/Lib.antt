@@ -11,3 +11,4 @@ pub mod OnStatus
 pub mod Law
 pub mod Taking
 pub mod Sending
+pub mod Meeting
