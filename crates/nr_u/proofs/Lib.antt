@@ -8,3 +8,7 @@ pub mod Gaps
 pub mod KeptLemmas
 pub mod Settled
 pub mod OnStatus
+pub mod Law
+pub mod Taking
+pub mod Sending
+pub mod Meeting

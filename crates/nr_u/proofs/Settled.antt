@@ -50,14 +50,14 @@ none_below limit low (e ∷ es) up past =
     let test : ltb e.0 limit ≡ false = le-ltb _ _ (omega (arith, up.0)) in
     rw test (none_below limit (e.0 + 1) es up.1 (omega (arith, up.0)))
 
-has_before : (j low : ℕ) (es : List Numbered) → Ascends low es → j < low → has j es ≡ false
+pub has_before : (j low : ℕ) (es : List Numbered) → Ascends low es → j < low → has j es ≡ false
 has_before j low [] up before = refl
 has_before j low (e ∷ es) up before = grind (arith, cmp_tells j e.0, has_before j (e.0 + 1) es up.1, up.0)
 
-has_head : (e : Numbered) (es : List Numbered) → has e.0 (e ∷ es) ≡ true
+pub has_head : (e : Numbered) (es : List Numbered) → has e.0 (e ∷ es) ≡ true
 has_head e es = grind (arith, cmp_tells e.0 e.0)
 
-has_other : (k : ℕ) (e : Numbered) (es : List Numbered) → k ≢ e.0 → has k (e ∷ es) ≡ has k es
+pub has_other : (k : ℕ) (e : Numbered) (es : List Numbered) → k ≢ e.0 → has k (e ∷ es) ≡ has k es
 has_other k e es other = grind (arith, cmp_tells k e.0)
 
 take_while-step : (p : Numbered → Bool) (e : Numbered) (es : List Numbered) → p e ≡ true → take_while p (e ∷ es) ≡ e ∷ take_while p es
@@ -84,7 +84,7 @@ front_is test limit low (e ∷ es) up passes fails =
           rw (stops, above) (sym (none_below limit (e.0 + 1) es up.1 (omega arith)))
     ]
 
-next_bounds : (low k : ℕ) (es : List Numbered) → Ascends low es → has k es ≡ true → k < next_after low es
+pub next_bounds : (low k : ℕ) (es : List Numbered) → Ascends low es → has k es ≡ true → k < next_after low es
 next_bounds low k [] up there = absurd cc
 next_bounds low k (e ∷ es) up there =
     let top = next_after-above (e.0 + 1) es up.1 in

@@ -6,3 +6,5 @@ pub mod Kept
 pub mod Delivery
 pub mod Outgoing
 pub mod Verdicts
+pub mod Ends
+pub mod Waiting

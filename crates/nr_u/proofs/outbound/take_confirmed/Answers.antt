@@ -1,10 +1,15 @@
-use Rattle.std.proofs.Common.{◌≡◌, not, rules, refl}
-use Rattle.std.proofs.lemmas.Map.Entries.{filter_from_retain_pairs}
-use Rattle.nr_u.specs.Outgoing.{confirms}
+use Rattle.std.proofs.Common.{◌∙◌, sym, ap, refl}
+use Rattle.std.specs.Prelude.{map, None}
+use Rattle.nr_u.specs.Outgoing.{Counted, confirms}
+use Rattle.nr_u.proofs.Taking.{none_passes}
 use Rattle.nr_u.proofs.outbound.take_confirmed.Goals as goal
 
-pub returns-clause-left : goal.returns-clause-left
-returns-clause-left c =
-    filter_from_retain_pairs _ (λ f. (f.0.now ≡ c.args.highest) × (f.1.now ≡ c.args.lost.now)) (λ e. not (confirms c.args.highest c.args.lost.now e))
-    (λ g k v b w g' i t. search rules)
-    _ c.args.waiting.now.entries c.retain.new.self.entries (refl, refl) c.retain.ensures.filtered
+pub returns-in-None-clause-counts : goal.returns-in-None-clause-counts
+returns-in-None-clause-counts c =
+    let none = none_passes (confirms None c.args.lost.now) c.args.waiting.now.entries (λ e. refl) in
+    rw c.in-None.is (c.new.ensures.items ∙ ap (map (λ (e : Counted). e.1)) (sym none.0))
+
+pub returns-in-None-clause-left : goal.returns-in-None-clause-left
+returns-in-None-clause-left c =
+    let none = none_passes (confirms None c.args.lost.now) c.args.waiting.now.entries (λ e. refl) in
+    rw c.in-None.is (sym none.1)
