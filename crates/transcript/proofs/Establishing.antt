@@ -7,7 +7,7 @@ use Rattle.std.proofs.lemmas.List.Elements.{Contains-push_cases, Contains-append
 use Rattle.std.proofs.lemmas.Option.{same_Some, none-some}
 use Rattle.std.proofs.lemmas.Bool.Decides.{eqb_tells}
 use Rattle.std.proofs.lemmas.Bool.{cond-true, cond-false, eqb-true, false_from_ne_true}
-use Rattle.std.specs.Prelude.{if◌then◌else◌, fold, filter, Contains}
+use Rattle.std.specs.Prelude.{if◌then◌else◌, fold, filter, map, Contains}
 use Rattle.std.specs.List.{flat_map}
 use Rattle.dc_base.specs.declared.nodes.Dir.{Dir}
 use Rattle.dc_base.specs.declared.nodes.LinkId.{LinkId}
@@ -20,8 +20,10 @@ use Rattle.dc_base.specs.declared.events.Event.{Event}
 use Rattle.dc_base.specs.declared.events.Event.TheVariants.{Bearer, Submit}
 use Rattle.dc_base.specs.declared.flights.Flight.TheVariants as flight
 use Rattle.transcript.specs.Transcript.{Entry, sends, gathered}
-use Rattle.transcript.specs.Bearers.{Established, established, established_by, generation, is_draw, plans, plan_drawn, latest, is_latest, is_generation_of, submission, submitted, ups, handed, confirms, confirmed, tag_of, tags_sent, command_after, open_command, has_after, is_set, key_in, key_of_item, open_from, is_named, plan_of, is_draw_of, submission_of, confirmed_by, up_of, is_same_dir}
-use Rattle.transcript.specs.Content.{given, is_to_master, reverse}
+use Rattle.dc_base.specs.declared.nodes.Node.TheVariants.{T, M}
+use Rattle.pdcp_pdu.specs.Pdu.{decoded}
+use Rattle.transcript.specs.Bearers.{OpenCommand, acked, read_of, Established, established, established_by, generation, is_draw, plans, plan_drawn, latest, is_latest, is_generation_of, submission, submitted, ups, handed, confirms, confirmed, tag_of, tags_sent, command_after, open_command, has_after, is_set, key_in, key_of_item, open_from, is_named, plan_of, is_draw_of, submission_of, confirmed_by, up_of, is_same_dir}
+use Rattle.transcript.specs.Content.{given, is_to, reverse}
 use Rattle.transcript.proofs.Growing.{gathered-next}
 use Rattle.transcript.proofs.Lists.{by_pushes, contains_kept, contains_one, contains-none}
 
@@ -57,7 +59,7 @@ pub generation-next : (t : List Entry) (e : Entry) → generation (t ++ e ∷ []
 generation-next t e = sum_by_push (λ x. cond (is_draw x) 1 0) t e
 
 -- the open command after a list of entries and one more
-open_from_push : (before : List Entry) (g : Option ℕ) (es : List Entry) (e : Entry) → open_from before g (es ++ e ∷ []) ≡ command_after (before ++ es) (open_from before g es) e
+open_from_push : (before : List Entry) (g : Option OpenCommand) (es : List Entry) (e : Entry) → open_from before g (es ++ e ∷ []) ≡ command_after (before ++ es) (open_from before g es) e
 open_from_push before g [] e = ap (λ b. command_after b g e) (sym (append-nil before))
 open_from_push before g (x ∷ es) e =
     open_from_push (before ++ x ∷ []) (command_after before g x) es e
@@ -197,12 +199,16 @@ submission_of-none b d (Submit id dir sdu) Ok =
     let own = (id == b.id) && is_same_dir dir d in cond-false (own && false) (sdu ∷ []) [] (and-false own)
 submission_of-none b d _ _ = refl
 
+-- a test that has a part that fails leaves nothing
+none_of : {A : Type 0} (own c : Bool) (xs : List A) → c ≡ false → (if own && c then xs else []) ≡ []
+none_of own c xs no' = cond-false (own && c) xs [] (ap (λ x. own && x) no' ∙ and-false own)
+
 -- no flight confirms anything of a bearer that has no generation yet
-confirmed_by-none : (b : Established) (before : List Entry) (taken : Option (LinkId × Flight)) → ((g : ℕ) → is_generation_of b g before ≡ false) → confirmed_by b before taken ≡ []
-confirmed_by-none b before (Some (l, flight.Ack id g num)) none =
-    let own = is_to_master l && (id == b.id) in
-    cond-false (own && is_generation_of b g before) (tags_sent (reverse l) id g num before) [] (ap (λ c. own && c) (none g) ∙ and-false own)
-confirmed_by-none b before _ none = refl
+confirmed_by-none : (b : Established) (d : Dir) (before : List Entry) (taken : Option (LinkId × Flight)) → ((g : ℕ) → is_generation_of b g before ≡ false) → confirmed_by b d before taken ≡ []
+confirmed_by-none b Dl before (Some (l, flight.Ack id g num)) none = none_of (is_to M l && (id == b.id)) (is_generation_of b g before) (map acked (tags_sent (reverse l) id g num before)) (none g)
+confirmed_by-none b Dl before (Some (l, flight.Air id g num tag pdu)) none = none_of (is_to M l && (id == b.id)) (is_generation_of b g before) (read_of (decoded b.n pdu)) (none g)
+confirmed_by-none b Ul before (Some (l, flight.Air id g num tag pdu)) none = none_of (is_to T l && (id == b.id)) (is_generation_of b g before) (read_of (decoded b.n pdu)) (none g)
+confirmed_by-none b d before _ none = refl
 
 -- every bearer so far has a lower generation: none is named as this one, up to any generation
 module _ (b : Established) (t : List Entry) (later : generation t < b.g) where
@@ -217,8 +223,7 @@ module _ (b : Established) (t : List Entry) (later : generation t < b.g) where
 
 -- no entry before the bearer's generation confirms any of its COUNTs
 confirms-none : (b : Established) (d : Dir) (t : List Entry) (e : Entry) → generation t < b.g → confirms b d t e ≡ []
-confirms-none b Dl t e later = confirmed_by-none b t (given t e) (unnamed b t later)
-confirms-none b Ul t e later = refl
+confirms-none b d t e later = confirmed_by-none b d t (given t e) (unnamed b t later)
 
 module _ (b : Established) (d : Dir) (t : List Entry) (later : generation t < b.g) where
   pub not_latest : is_latest b t ≡ false

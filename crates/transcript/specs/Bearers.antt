@@ -1,19 +1,21 @@
 -- Bearers: when each was established, under which plans and keys, and what was submitted and handed up.
-use Rattle.std.specs.Prelude.{ℕ, zero, suc, ◌+◌, ◌==◌, ◌&&◌, ◌++◌, nat_le, if◌then◌else◌, Bool, true, false, List, [], ◌∷◌, length, fold, filter, count_by, Option, Some, None}
+use Rattle.std.specs.Prelude.{ℕ, zero, suc, ◌+◌, ◌==◌, ◌&&◌, ◌++◌, map, Result, Ok, nat_le, if◌then◌else◌, Bool, true, false, List, [], ◌∷◌, length, fold, filter, count_by, Option, Some, None}
 use Rattle.std.specs.List.{flat_map, list_any}
 use Rattle.dc_base.specs.declared.numbers.SnLen.{SnLen}
 use Rattle.dc_base.specs.declared.nodes.Dir.{Dir}
 use Rattle.dc_base.specs.declared.nodes.Dir.TheVariants.{Ul, Dl}
 use Rattle.dc_base.specs.declared.nodes.KeyName.{KeyName}
 use Rattle.dc_base.specs.declared.nodes.LinkId.{LinkId}
+use Rattle.dc_base.specs.declared.nodes.Node.{Node}
+use Rattle.dc_base.specs.declared.nodes.Node.TheVariants.{T, M}
 use Rattle.dc_base.specs.declared.flights.Flight.{Flight}
 use Rattle.dc_base.specs.declared.flights.Flight.TheVariants as flight
 use Rattle.dc_base.specs.declared.nodes.Side.TheVariants.{Master}
 use Rattle.dc_base.specs.declared.answers.Answer.{Answer}
-use Rattle.dc_base.specs.declared.answers.Answer.TheVariants.{Ok}
+use Rattle.dc_base.specs.declared.answers.Answer.TheVariants as answer
 use Rattle.dc_base.specs.declared.events.Header.{Header}
 use Rattle.dc_base.specs.declared.events.Event.{Event}
-use Rattle.dc_base.specs.declared.events.Event.TheVariants.{Bearer, Submit}
+use Rattle.dc_base.specs.declared.events.Event.TheVariants.{Bearer, Recover, Submit}
 use Rattle.dc_base.specs.declared.events.Line.{Line}
 use Rattle.dc_base.specs.declared.events.Line.TheVariants as line
 use Rattle.dc_base.specs.declared.events.Note.TheVariants.{Set as SetNote, Unset as UnsetNote, Up, Freed, Done}
@@ -21,7 +23,10 @@ use Rattle.dc_base.specs.declared.records.Item.{Item}
 use Rattle.dc_base.specs.declared.records.Item.TheVariants.{Set, Unset}
 use Rattle.dc_base.specs.declared.records.Plan.{Plan}
 use Rattle.transcript.specs.Transcript.{Entry, sends, gathered}
-use Rattle.transcript.specs.Content.{is_same_link, is_to_master, reverse, given}
+use Rattle.transcript.specs.Content.{is_same_link, is_to, reverse, given}
+use Rattle.pdcp_pdu.specs.Bitmap.{names}
+use Rattle.pdcp_pdu.specs.Pdu.{Content, report, decoded}
+use Rattle.pdcp_pdu.specs.declared.pdu.PduErr.{PduErr}
 
 -- one establishment of an identity, named by the generation that its command drew
 pub record Established : Type 0 where
@@ -38,7 +43,7 @@ is_same_dir _ _ = false
 
 -- whether an entry draws the next generation
 abbrev pub is_draw_of : Event → Answer → Bool
-is_draw_of (Bearer id n first shape threshold policy) Ok = true
+is_draw_of (Bearer id n first shape threshold policy) answer.Ok = true
 is_draw_of _ _ = false
 
 -- whether an entry draws the next generation: it is the setup of a bearer, and was answered ok
@@ -55,7 +60,7 @@ master_key root = record { root = root; side = Master }
 
 -- the plan that an entry draws
 abbrev pub plan_of : ℕ → Event → Answer → List Plan
-plan_of g (Bearer id n first shape threshold policy) Ok =
+plan_of g (Bearer id n first shape threshold policy) answer.Ok =
     record { g = g; sec = None; items = Set id n first shape threshold policy (master_key 0) None ∷ [] } ∷ []
 plan_of g _ _ = []
 
@@ -108,7 +113,7 @@ roots h t = h.root ∷ []
 
 -- the payload that an entry submits to the bearer in this direction
 abbrev pub submission_of : Established → Dir → Bool → Event → Answer → List (List ℕ)
-submission_of b d current (Submit id dir sdu) Ok = if (id == b.id) && is_same_dir dir d && current then sdu ∷ [] else []
+submission_of b d current (Submit id dir sdu) answer.Ok = if (id == b.id) && is_same_dir dir d && current then sdu ∷ [] else []
 submission_of b d current _ _ = []
 
 -- the payload that an entry submits to the bearer; none if it is refused, or a later bearer has the identity
@@ -146,29 +151,42 @@ freed_of b d _ = []
 abbrev pub frees : Established → Dir → List Entry → Entry → List ℕ
 frees b d before e = if is_latest b before then flat_map (freed_of b d) e.lines else []
 
--- what an entry makes of the command that is open, named by its generation: it opens the one that it draws, and `done` ends it
-abbrev pub ends_command : Option ℕ → Line → Option ℕ
-ends_command g (line.Note Done) = None
-ends_command g _ = g
+-- a command that is open: one that drew this generation, or the recovery of this identity
+pub data OpenCommand : Type 0 where
+  change : ℕ → OpenCommand
+  recovery : ℕ → OpenCommand
 
-abbrev pub command_after : List Entry → Option ℕ → Entry → Option ℕ
-command_after before g e = fold ends_command (if is_draw e then Some (generation before + 1) else g) e.lines
+-- an event may open a command: g is the generation that it would draw
+abbrev pub opens : ℕ → Option OpenCommand → Event → Answer → Option OpenCommand
+opens g open' (Bearer id n first shape threshold policy) answer.Ok = Some (change g)
+opens g open' (Recover id) answer.Ok = Some (recovery id)
+opens g open' _ _ = open'
 
--- the generation of the command that is open, if one is
-abbrev pub open_from : List Entry → Option ℕ → List Entry → Option ℕ
-open_from before g [] = g
-open_from before g (e ∷ es) = open_from (before ++ e ∷ []) (command_after before g e) es
+-- and `done` ends it
+abbrev pub ends_command : Option OpenCommand → Line → Option OpenCommand
+ends_command open' (line.Note Done) = None
+ends_command open' _ = open'
 
-abbrev pub open_command : List Entry → Option ℕ
+-- what an entry makes of the command that is open
+abbrev pub command_after : List Entry → Option OpenCommand → Entry → Option OpenCommand
+command_after before open' e = fold ends_command (opens (generation before + 1) open' e.event e.answer) e.lines
+
+-- so do the entries, one after another
+abbrev pub open_from : List Entry → Option OpenCommand → List Entry → Option OpenCommand
+open_from before open' [] = open'
+open_from before open' (e ∷ es) = open_from (before ++ e ∷ []) (command_after before open' e) es
+
+-- the command that is open, if one is
+abbrev pub open_command : List Entry → Option OpenCommand
 open_command t = open_from [] None t
 
 -- whether the bearer's own command is still open
-abbrev pub is_opening : Option ℕ → Established → Bool
-is_opening None b = false
-is_opening (Some g) b = g == b.g
+abbrev pub is_opening : Option OpenCommand → Established → Bool
+is_opening (Some (change g)) b = g == b.g
+is_opening _ b = false
 
 -- the bearer of an identity at the master: the latest, once its command is done
-abbrev pub unless_opening : Option ℕ → Option Established → Option Established
+abbrev pub unless_opening : Option OpenCommand → Option Established → Option Established
 unless_opening g None = None
 unless_opening g (Some b) = if is_opening g b then None else Some b
 
@@ -188,37 +206,72 @@ is_set id t = fold (has_after id) false (flat_map (λ e. e.lines) t)
 abbrev pub at_terminal : ℕ → List Entry → Option Established
 at_terminal id t = if is_set id t then latest id (established t) else None
 
--- the bearer of an identity at the node that submits in this direction
+-- the bearer of an identity at a node; the secondaries have none
+abbrev pub at_node : Node → ℕ → List Entry → Option Established
+at_node M id t = at_master id t
+at_node T id t = at_terminal id t
+at_node _ id t = None
+
+-- the node that submits in a direction, and so is told what is confirmed
+abbrev pub submitter : Dir → Node
+submitter Dl = M
+submitter Ul = T
+
+-- the bearer of an identity there
 abbrev pub at_submitter : Dir → ℕ → List Entry → Option Established
-at_submitter Dl id t = at_master id t
-at_submitter Ul id t = at_terminal id t
+at_submitter d id t = at_node (submitter d) id t
+
+-- ---- what is confirmed
+
+-- a confirmation: of one COUNT, or of all that a status report with this FMC and this bitmap names
+pub data Confirmation : Type 0 where
+  acked : ℕ → Confirmation
+  reported : ℕ → List ℕ → Confirmation
+
+-- whether a confirmation is of this COUNT
+abbrev pub is_of : ℕ → Confirmation → Bool
+is_of count (acked c) = c == count
+is_of count (reported fmc bits) = names fmc bits count
+
+-- whether one of them is
+abbrev pub is_confirmed : List Confirmation → ℕ → Bool
+is_confirmed confirmations count = list_any (is_of count) confirmations
 
 -- the tag of a data PDU that was sent on the link with this identity, generation and number
 abbrev pub tag_of : LinkId → ℕ → ℕ → ℕ → LinkId × Flight → List ℕ
 tag_of l id g num (k, flight.Air i h m (Some count) pdu) = if is_same_link l k && (i == id) && (h == g) && (m == num) then count ∷ [] else []
 tag_of l id g num _ = []
 
+-- all of them
 abbrev pub tags_sent : LinkId → ℕ → ℕ → ℕ → List Entry → List ℕ
 tags_sent l id g num t = gathered (λ before e. flat_map (tag_of l id g num) (sends e.lines)) t
 
--- the COUNTs that a flight confirms to the master: an ack of one of its own PDUs does
-abbrev pub confirmed_by : Established → List Entry → Option (LinkId × Flight) → List ℕ
-confirmed_by b before (Some (l, flight.Ack id g num)) =
-    if is_to_master l && (id == b.id) && is_generation_of b g before then tags_sent (reverse l) id g num before else []
-confirmed_by b before _ = []
+-- what a PDU that was read confirms
+abbrev pub read_of : Result Content PduErr → List Confirmation
+read_of (Ok (report fmc bits)) = reported fmc bits ∷ []
+read_of _ = []
 
-abbrev pub confirms : Established → Dir → List Entry → Entry → List ℕ
-confirms b Dl before e = confirmed_by b before (given before e)
-confirms b Ul before e = []
+-- what a flight that comes to the submitter in direction d confirms: a status report all that it names, and an ack of
+-- a downlink PDU its COUNT; in uplink status reports alone confirm
+abbrev pub confirmed_by : Established → Dir → List Entry → Option (LinkId × Flight) → List Confirmation
+confirmed_by b Dl before (Some (l, flight.Ack id g num)) =
+    if is_to M l && (id == b.id) && is_generation_of b g before then map acked (tags_sent (reverse l) id g num before) else []
+confirmed_by b d before (Some (l, flight.Air id g num tag pdu)) =
+    if is_to (submitter d) l && (id == b.id) && is_generation_of b g before then read_of (decoded b.n pdu) else []
+confirmed_by b d before _ = []
 
--- the COUNTs of the bearer that are confirmed in this direction: in uplink status reports alone confirm
-abbrev pub confirmed : Established → Dir → List Entry → List ℕ
+-- what an entry confirms
+abbrev pub confirms : Established → Dir → List Entry → Entry → List Confirmation
+confirms b d before e = confirmed_by b d before (given before e)
+
+-- all that was confirmed of the bearer in this direction
+abbrev pub confirmed : Established → Dir → List Entry → List Confirmation
 confirmed b d t = gathered (confirms b d) t
 
--- the least COUNT from c on that is none of these, among the first k
-abbrev pub least_but : List ℕ → ℕ → ℕ → ℕ
-least_but counts c zero = c
-least_but counts c (suc k) = if list_any (λ x. x == c) counts then least_but counts (c + 1) k else c
+-- the least COUNT from c on that is not confirmed, among the first k
+abbrev pub least_but : List Confirmation → ℕ → ℕ → ℕ
+least_but confirmations c zero = c
+least_but confirmations c (suc k) = if is_confirmed confirmations c then least_but confirmations (c + 1) k else c
 
 -- where the submitter's window begins: the least COUNT that is not confirmed, or the next one
 abbrev pub told : Established → Dir → List Entry → ℕ

@@ -1,6 +1,6 @@
 -- What is claimed of a transcript: each claim for one bearer and one direction, or for one entry.
-use Rattle.std.specs.Prelude.{◌≡◌, ℕ, ◌+◌, ◌-◌, ◌^◌, ◌≤◌, ◌==◌, ◌&&◌, not, nat_lt, nat_le, if◌then◌else◌, Bool, true, false, List, [], ◌∷◌, ◌++◌, length, slice_get, Contains, Option, Some, None, is_some, ⊤}
-use Rattle.std.specs.List.{AllByRecursion}
+use Rattle.std.specs.Prelude.{◌≡◌, ℕ, ◌+◌, ◌-◌, ◌^◌, ◌<◌, ◌≤◌, ◌⊎◌, ◌==◌, ◌&&◌, not, count_by, nat_lt, nat_le, if◌then◌else◌, Bool, true, false, List, [], ◌∷◌, ◌++◌, length, slice_get, Contains, Option, Some, None, is_some, ⊤}
+use Rattle.std.specs.List.{AllByRecursion, flat_map}
 use Rattle.dc_base.specs.Count.{window, sn}
 use Rattle.dc_base.specs.declared.nodes.Node.{Node}
 use Rattle.dc_base.specs.declared.nodes.Node.TheVariants.{T, M}
@@ -16,14 +16,14 @@ use Rattle.dc_base.specs.declared.nodes.LinkId.{LinkId}
 use Rattle.dc_base.specs.declared.flights.Flight.{Flight}
 use Rattle.dc_base.specs.declared.flights.Flight.TheVariants as flight
 use Rattle.dc_base.specs.declared.records.Rec.{Rec}
-use Rattle.dc_base.specs.declared.records.Rec.TheVariants.{Reconf, Rcomp}
+use Rattle.dc_base.specs.declared.records.Rec.TheVariants.{Reconf, Rcomp, Recov, Recovd}
 use Rattle.dc_base.specs.declared.records.Plan.{Plan}
 use Rattle.dc_base.specs.declared.answers.Answer.{Answer}
 use Rattle.dc_base.specs.declared.answers.Answer.TheVariants.{Ok, No}
 use Rattle.dc_base.specs.declared.answers.Refusal.TheVariants.{NoBearer, BearerThere, Busy, NoSecondary, NoFlight, NotFirst, NotTunnel, Aged, Full, Exhausted, NoPolicy}
 use Rattle.dc_base.specs.declared.events.Header.{Header}
 use Rattle.dc_base.specs.declared.events.Event.{Event}
-use Rattle.dc_base.specs.declared.events.Event.TheVariants.{Bearer, Submit, Step, Lose, Again}
+use Rattle.dc_base.specs.declared.events.Event.TheVariants.{Bearer, Recover, Report, Submit, Step, Lose, Again}
 use Rattle.nea2.specs.Combined.{combined}
 use Rattle.nea2.specs.Keystream.{keystream}
 use Rattle.key_chain.specs.KeyNames.{upenc}
@@ -31,7 +31,7 @@ use Rattle.pdcp_pdu.specs.DataPdu.{data_pdu}
 use Rattle.transcript.specs.Text.{is_data}
 use Rattle.transcript.specs.Transcript.{Entry, sends, Each, SomeEntry}
 use Rattle.transcript.specs.Content.{mt_ctl, tm_ctl, reverse, direction, content, given}
-use Rattle.transcript.specs.Bearers.{Established, established, latest, is_generation_of, plans, plan_drawn, key_in, roots, submitted, ups, handed, numbered, frees, told, open_command, at_master, at_submitter}
+use Rattle.transcript.specs.Bearers.{Established, established, latest, is_generation_of, plans, plan_drawn, key_in, roots, submitted, ups, handed, numbered, frees, told, confirmed, is_confirmed, open_command, at_master, at_node, at_submitter, submitter}
 
 -- the flight is a data PDU of the bearer in this direction
 abbrev pub IsDataFlight : List Entry → Established → Dir → LinkId × Flight → Type 0
@@ -115,6 +115,10 @@ pub record IsKept (h : Header) (b : Established) (d : Dir) (before : List Entry)
   pub frees : Frees b d before e
   pub complete : Complete b d before e
 
+-- no command is open when nothing stands on any link
+abbrev pub NoStall : List Entry → Entry → Type 0
+NoStall before e = let t = before ++ e ∷ [] in IsQuiet t → open_command t ≡ None
+
 -- and so of every bearer
 abbrev pub KeepsAll : Header → List Entry → Entry → Type 0
 KeepsAll h before e = (b : Established) (d : Dir) → Contains (established (before ++ e ∷ [])) b → IsKept h b d before e
@@ -150,6 +154,15 @@ bearer_answer policies before id shape policy =
     else if nat_le policies policy then No NoPolicy
     else Ok
 
+-- the answer that a recovery of the bearer is due
+abbrev pub recover_answer : List Entry → Option Established → Answer
+recover_answer before b =
+    if is_some (open_command before) then No Busy else if is_some b then Ok else No NoBearer
+
+-- the answer that a report of this bearer is due
+abbrev pub report_answer : Option Established → Answer
+report_answer b = if is_some b then Ok else No NoBearer
+
 -- the answer that a submission to this bearer is due
 abbrev pub submit_answer : Dir → List Entry → Option Established → Answer
 submit_answer d before None = No NoBearer
@@ -181,6 +194,8 @@ tunnel_answer before l i =
 -- the answer that an event is due
 abbrev pub due_answer : ℕ → List Entry → Event → Answer
 due_answer policies before (Bearer id n first shape threshold policy) = bearer_answer policies before id shape policy
+due_answer policies before (Recover id) = recover_answer before (at_master id before)
+due_answer policies before (Report node id) = report_answer (at_node node id before)
 due_answer policies before (Submit id d sdu) = submit_answer d before (at_submitter d id before)
 due_answer policies before (Step l i) = step_answer before l i (slice_get (content l before) i)
 due_answer policies before (Lose l i) = tunnel_answer before l i
@@ -199,15 +214,44 @@ pub record Acknowledges (before : List Entry) (e : Entry) (l : LinkId) (id g num
   pub pdu : List ℕ
   pub is_given : given before e ≡ Some (from, flight.Air id g num tag pdu)
 
+-- a PDU is of the bearer that is the latest of its identity, in a generation of it
+pub record IsOfBearer (before : List Entry) (id g : ℕ) (bearer : Established) : Type 0 where
+  pub latest_is : latest id (established before) ≡ Some bearer
+  pub of_generation : is_generation_of bearer g before ≡ true
+
 -- a data PDU is sent at the submission of its payload
 pub record FirstSent (before : List Entry) (e : Entry) (l : LinkId) (id g : ℕ) (tag : Option ℕ) : Type 0 where
   pub sdu : List ℕ
   pub submits : e.event ≡ Submit id (direction l) sdu
   pub accepted : e.answer ≡ Ok
   pub bearer : Established
-  pub of_bearer : latest id (established before) ≡ Some bearer
-  pub of_generation : is_generation_of bearer g before ≡ true
+  pub of_bearer : IsOfBearer before id g bearer
   pub tagged : tag ≡ Some (bearer.first + length (submitted bearer (direction l) before))
+
+-- the entry makes the submitter in direction d recover the bearer: the command does the master, and its record the terminal
+abbrev pub MakesRecover : List Entry → Entry → Dir → ℕ → Type 0
+MakesRecover before e Dl id = (e.event ≡ Recover id) × (e.answer ≡ Ok)
+MakesRecover before e Ul id = given before e ≡ Some (mt_ctl, flight.Ctl (Recov id))
+
+-- a data PDU is sent again in a recovery: its COUNT was submitted, and is not confirmed
+pub record SentAgain (before : List Entry) (e : Entry) (l : LinkId) (id g : ℕ) (tag : Option ℕ) : Type 0 where
+  pub recovers : MakesRecover before e (direction l) id
+  pub bearer : Established
+  pub of_bearer : IsOfBearer before id g bearer
+  pub count : ℕ
+  pub tagged : tag ≡ Some count
+  pub from : bearer.first ≤ count
+  pub below : count < bearer.first + length (submitted bearer (direction l) before)
+  pub unconfirmed : is_confirmed (confirmed bearer (direction l) before) count ≡ false
+
+-- a status report is sent at its event, by the node that was told to
+pub record Reports (before : List Entry) (e : Entry) (l : LinkId) (id g : ℕ) : Type 0 where
+  pub node : Node
+  pub commanded : e.event ≡ Report node id
+  pub accepted : e.answer ≡ Ok
+  pub by : l.from ≡ node
+  pub bearer : Established
+  pub of_bearer : IsOfBearer before id g bearer
 
 -- a reconfiguration carries the plan that the entry draws, and the octets of the current root
 pub record Reconfigures (h : Header) (before : List Entry) (e : Entry) (l : LinkId) (plan : Plan) (root : List ℕ) : Type 0 where
@@ -223,23 +267,54 @@ pub record Completes (before : List Entry) (e : Entry) (l : LinkId) (g : ℕ) : 
   pub same : plan.g ≡ g
   pub to_master : l ≡ tm_ctl
 
--- the reason for which a record is sent; only a reconfiguration and its answer can have one
+-- the terminal is told to recover by the command
+pub record TellsRecovery (e : Entry) (l : LinkId) (id : ℕ) : Type 0 where
+  pub commanded : e.event ≡ Recover id
+  pub accepted : e.answer ≡ Ok
+  pub to_terminal : l ≡ mt_ctl
+
+-- and answers that when it is taken
+pub record TellsRecovered (before : List Entry) (e : Entry) (l : LinkId) (id : ℕ) : Type 0 where
+  pub is_given : given before e ≡ Some (mt_ctl, flight.Ctl (Recov id))
+  pub to_master : l ≡ tm_ctl
+
+-- the reason in its own event for which a record is sent
 abbrev pub IsReasonForRecord : Header → List Entry → Entry → LinkId → Rec → Type 0
 IsReasonForRecord h before e l (Reconf plan root) = Reconfigures h before e l plan root
 IsReasonForRecord h before e l (Rcomp g) = Completes before e l g
+IsReasonForRecord h before e l (Recov id) = TellsRecovery e l id
+IsReasonForRecord h before e l (Recovd id) = TellsRecovered before e l id
 IsReasonForRecord h before e l _ = ⊥
 
 -- the reason in its own event for which a flight is sent
 abbrev pub IsReason : Header → List Entry → Entry → LinkId × Flight → Type 0
-IsReason h before e (l, flight.Air id g num tag pdu) = (is_data pdu ≡ true) × FirstSent before e l id g tag
+IsReason h before e (l, flight.Air id g num tag pdu) =
+    ((is_data pdu ≡ true) × (FirstSent before e l id g tag ⊎ SentAgain before e l id g tag)) ⊎ ((is_data pdu ≡ false) × Reports before e l id g)
 IsReason h before e (l, flight.Ack id g num) = Acknowledges before e l id g num
 IsReason h before e (l, flight.Ctl r) = IsReasonForRecord h before e l r
 IsReason h before e _ = ⊥
 
--- each flight that an entry sends has its reason, and there is at most one
+-- the COUNT of a data PDU, and nothing of any other flight
+abbrev pub count_in : LinkId × Flight → List ℕ
+count_in (l, flight.Air id g num (Some count) pdu) = count ∷ []
+count_in _ = []
+
+-- whether a flight has no COUNT
+abbrev pub is_uncounted : LinkId × Flight → Bool
+is_uncounted (l, flight.Air id g num (Some count) pdu) = false
+is_uncounted _ = true
+
+-- the numbers ascend, from low on
+abbrev pub AscendsFrom : ℕ → List ℕ → Type 0
+AscendsFrom low [] = ⊤
+AscendsFrom low (c ∷ cs) = (low ≤ c) × AscendsFrom (c + 1) cs
+
+-- each flight that an entry sends has its reason; the COUNTs of its data PDUs ascend, so that each is sent once, and
+-- there is at most one other flight
 pub record IsLicensed (h : Header) (before : List Entry) (e : Entry) : Type 0 where
   pub reasons : AllByRecursion (IsReason h before e) (sends e.lines)
-  pub one : length (sends e.lines) ≤ 1
+  pub ascends : AscendsFrom 0 (flat_map count_in (sends e.lines))
+  pub one : count_by is_uncounted (sends e.lines) ≤ 1
 
 -- the flight was sent
 abbrev pub IsSentIn : List Entry → LinkId × Flight → Type 0
@@ -260,4 +335,5 @@ pub record IsFaithful (h : Header) (policies : ℕ) (t : List Entry) : Type 0 wh
   pub bearers : Each (KeepsAll h) t
   pub causes : Each (HasCause policies) t
   pub licence : Each (IsLicensed h) t
+  pub no_stall : Each NoStall t
   pub one_use : IsOneUse t

@@ -56,9 +56,9 @@ mt_air = record { from = M; to = T; class = Air }
 abbrev pub tm_air : LinkId
 tm_air = record { from = T; to = M; class = Air }
 
--- whether the master receives from it
-abbrev pub is_to_master : LinkId → Bool
-is_to_master l = node_number l.to == 1
+-- whether this node receives from it
+abbrev pub is_to : Node → LinkId → Bool
+is_to node l = node_number l.to == node_number node
 
 -- the link of the same class the other way
 abbrev pub reverse : LinkId → LinkId
