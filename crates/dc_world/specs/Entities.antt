@@ -4,12 +4,12 @@ use Rattle.pdcp_tx.specs.Sender.{Sender}
 use Rattle.pdcp_rx.specs.declared.entity.RxParts.{RxParts}
 use Rattle.transcript.specs.Bearers.{Established}
 
--- a bearer at a node: its sending entity, the COUNTs of the PDUs sent on its leg by their numbers there, and its
--- receiving entity
+-- a bearer at a node: its sending entity, the PDUs sent on its leg by their numbers there, each with its COUNT if it
+-- is a data PDU, and its receiving entity
 pub record Entities : Type 0 where
   pub bearer : Established
   pub tx : Sender
-  pub sent : List ℕ
+  pub sent : List (Option ℕ)
   pub rx : RxParts
 
 -- a bearer that carried nothing yet

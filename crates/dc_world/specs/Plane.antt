@@ -18,13 +18,15 @@ use Rattle.nea2.specs.Combined.{combined}
 use Rattle.nea2.specs.Keystream.{keystream}
 use Rattle.key_chain.specs.KeyNames.{upenc}
 use Rattle.pdcp_pdu.specs.DataPdu.{data_pdu}
-use Rattle.pdcp_pdu.specs.Pdu.{Content, sdu, decoded}
+use Rattle.pdcp_pdu.specs.Pdu.{Content, sdu, report, decoded}
+use Rattle.pdcp_pdu.specs.StatusReport.{report_pdu}
 use Rattle.pdcp_pdu.specs.declared.pdu.PduErr.{PduErr}
 use Rattle.pdcp_rx.specs.declared.entity.Put.{Put}
 use Rattle.pdcp_rx.specs.declared.entity.RxParts.{RxParts}
+use Rattle.pdcp_rx.specs.Entries.{counts_of}
 use Rattle.pdcp_rx.specs.Receiver.{put, handed_of}
 use Rattle.pdcp_tx.specs.Sender.{Sender, low}
-use Rattle.pdcp_tx.specs.Sending.{taken, confirmed}
+use Rattle.pdcp_tx.specs.Sending.{taken, confirmed, reported}
 use Rattle.pdcp_tx.specs.declared.tx.TxErr.{TxErr}
 use Rattle.pdcp_tx.specs.declared.tx.TxErr.TheVariants as refused
 use Rattle.transcript.specs.Text.{is_data}
@@ -59,7 +61,7 @@ data_flight h b d num count payload =
 -- a submission is numbered, kept and sent, or refused
 abbrev pub numbered_as : Header → Dir → Entities → List ℕ → Result (Sender × ℕ) TxErr → Entities × Outcome
 numbered_as h d e payload (Ok (tx, count)) = (
-  record e { tx = tx; sent = e.sent ++ count ∷ [] },
+  record e { tx = tx; sent = e.sent ++ Some count ∷ [] },
   (answer.Ok, line.Send (leg d) (data_flight h e.bearer d (length e.sent) count payload) ∷ []),
 )
 numbered_as h d e payload (Err refused.Exhausted) = (e, (answer.No Exhausted, []))
@@ -94,22 +96,29 @@ abbrev pub with_count : Header → Dir → Entities → List ℕ → Option ℕ 
 with_count h d e body None = (e, [])
 with_count h d e body (Some count) = sdu_taken h d e body count
 
--- what was read of a PDU: a data PDU is confirmed after what it gave, even if it is discarded; nothing else is taken
+-- where the window of a direction begins, if that is further than before
+abbrev pub freed_lines : ℕ → Dir → ℕ → ℕ → List Line
+freed_lines id d before after = if nat_lt before after then line.Note (note.Freed id d after) ∷ [] else []
+
+-- the bearer with what its sending entity becomes, which confirms PDUs of direction d
+abbrev pub with_confirmed : Dir → Entities → Sender → Entities × List Line
+with_confirmed d e tx = (record e { tx = tx }, freed_lines e.bearer.id d (low e.tx) (low tx))
+
+-- what was read of a PDU that came in direction d gives: an SDU goes up in order, and a status report confirms what was
+-- sent the other way; each is confirmed after what it gave, even where the SDU is discarded; nothing else is taken
 abbrev pub pdu_taken : Header → Dir → Entities → ℕ → Result Content PduErr → Entities × List Line
 pdu_taken h d e num (Ok (sdu shown body)) =
     let done = with_count h d e body (count_for e.bearer.n e.rx.deliv shown) in
     (done.0, done.1 ++ ack_line e.bearer d num ∷ [])
+pdu_taken h d e num (Ok (report fmc bits)) =
+    let done = with_confirmed (other d) e (reported e.tx fmc bits) in
+    (done.0, done.1 ++ ack_line e.bearer d num ∷ [])
 pdu_taken h d e num _ = (e, [])
 
--- where the window begins, if that is further than before
-abbrev pub freed_lines : ℕ → ℕ → ℕ → List Line
-freed_lines id before after = if nat_lt before after then line.Note (note.Freed id Dl after) ∷ [] else []
-
--- the PDU of this COUNT is confirmed to the master
-abbrev pub confirmed_at : Entities → Option ℕ → Entities × List Line
-confirmed_at e None = (e, [])
-confirmed_at e (Some count) =
-    let tx = confirmed e.tx count in (record e { tx = tx }, freed_lines e.bearer.id (low e.tx) (low tx))
+-- the PDU of this number is confirmed to the master: only a data PDU has a COUNT
+abbrev pub confirmed_at : Entities → Option (Option ℕ) → Entities × List Line
+confirmed_at e (Some (Some count)) = with_confirmed Dl e (confirmed e.tx count)
+confirmed_at e _ = (e, [])
 
 -- an ack comes with what travels in direction d: it confirms downlink PDUs; in uplink status reports alone confirm
 abbrev pub ack_taken : Dir → Entities → ℕ → Entities × List Line
@@ -146,3 +155,22 @@ is_behind g count (Some e) = (e.bearer.g == g) && nat_lt (count + window e.beare
 abbrev pub is_aged : Table → Flight → Bool
 is_aged table (flight.Air id g num (Some count) pdu) = is_data pdu && is_behind g count (bearer_in table id)
 is_aged table _ = false
+
+-- ---- reports and recoveries
+
+-- the status report of the receiving entity, sent in direction d as the next PDU of its leg
+abbrev pub report_flight : Entities → Flight
+report_flight e = flight.Air e.bearer.id e.bearer.g (length e.sent) None (report_pdu e.rx.deliv (counts_of e.rx.stored))
+
+-- a bearer sends one
+abbrev pub reports : Dir → Entities → Entities × List Line
+reports d e = (record e { sent = e.sent ++ None ∷ [] }, line.Send (leg d) (report_flight e) ∷ [])
+
+-- these are sent again, the first as this number of the leg
+abbrev pub resends : Header → Established → Dir → ℕ → List (ℕ × List ℕ) → List Line
+resends h b d num [] = []
+resends h b d num (x ∷ xs) = line.Send (leg d) (data_flight h b d num x.0 x.1) ∷ resends h b d (num + 1) xs
+
+-- a bearer recovers (TS 38.323, 5.4.1 and 5.5): all that is kept is sent again, in ascending COUNT
+abbrev pub recovers : Header → Dir → Entities → Entities × List Line
+recovers h d e = (record e { sent = e.sent ++ map (λ x. Some x.0) e.tx.kept }, resends h e.bearer d (length e.sent) e.tx.kept)

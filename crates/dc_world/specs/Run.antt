@@ -11,19 +11,19 @@ use Rattle.dc_base.specs.declared.nodes.LinkId.{LinkId}
 use Rattle.dc_base.specs.declared.flights.Flight.{Flight}
 use Rattle.dc_base.specs.declared.flights.Flight.TheVariants as flight
 use Rattle.dc_base.specs.declared.answers.Answer.TheVariants as answer
-use Rattle.dc_base.specs.declared.answers.Refusal.TheVariants.{NoFlight, NotFirst, NotTunnel, Aged}
+use Rattle.dc_base.specs.declared.answers.Refusal.TheVariants.{NoBearer, NoFlight, NotFirst, NotTunnel, Aged}
 use Rattle.dc_base.specs.declared.events.Header.{Header}
 use Rattle.dc_base.specs.declared.events.Event.{Event}
-use Rattle.dc_base.specs.declared.events.Event.TheVariants.{Bearer, Submit, Step, Lose, Again}
+use Rattle.dc_base.specs.declared.events.Event.TheVariants.{Bearer, Recover, Report, Submit, Step, Lose, Again}
 use Rattle.dc_base.specs.declared.events.Line.{Line}
 use Rattle.dc_base.specs.declared.events.Line.TheVariants as line
 use Rattle.pdcp_pdu.specs.DataPdu.{IsPayload}
 use Rattle.transcript.specs.Transcript.{Entry, sends, entry_lines}
 use Rattle.transcript.specs.Content.{place_taken}
 use Rattle.transcript.specs.Claims.{is_ordered, is_tunnel}
-use Rattle.dc_world.specs.Entities.{Entities, Table, no_bearers, bearer_in}
-use Rattle.dc_world.specs.Plane.{Outcome, submitted, air_taken, is_aged}
-use Rattle.dc_world.specs.Control.{Nodes, new_nodes, commanded, told_terminal, told_master, is_open}
+use Rattle.dc_world.specs.Entities.{Entities, Table, no_bearers, bearer_in, with_bearer}
+use Rattle.dc_world.specs.Plane.{Outcome, submitted, air_taken, is_aged, reports}
+use Rattle.dc_world.specs.Control.{Nodes, new_nodes, commanded, unless_open, recovery_commanded, told_terminal, told_master}
 use Rattle.dc_world.specs.Links.{Links, no_links, on, moved}
 
 -- what the nodes hold, and what stands on the links
@@ -36,9 +36,11 @@ pub record WorldState : Type 0 where
 abbrev pub new_world : Header → WorldState
 new_world h = record { header = h; nodes = new_nodes; links = no_links }
 
--- what a world takes so far: new bearers, submissions, and what happens to flights
+-- what a world takes so far: new bearers, recoveries, reports, submissions, and what happens to flights
 abbrev pub is_built : Event → Bool
 is_built (Bearer id n first shape threshold policy) = true
+is_built (Recover id) = true
+is_built (Report node id) = true
 is_built (Submit id d payload) = true
 is_built (Step l i) = true
 is_built (Lose l i) = true
@@ -52,11 +54,6 @@ IsGood (Bearer id n first shape threshold policy) = (id ≤ 32) × (first < 2 ^ 
 IsGood (Submit id d payload) = IsPayload payload
 IsGood _ = ⊤
 
--- the bearer, unless its command is still open
-abbrev pub unless_open : Option ℕ → Option Entities → Option Entities
-unless_open busy None = None
-unless_open busy (Some e) = if is_open busy e.bearer.g then None else Some e
-
 -- a payload is submitted: in downlink at the master, in uplink at the terminal
 abbrev pub submission : Header → Nodes → ℕ → List ℕ → Dir → Nodes × Outcome
 submission h s id payload Dl =
@@ -66,6 +63,18 @@ submission h s id payload Ul =
     let done = submitted h Ul s.terminal id payload (bearer_in s.terminal id) in
     (record s { terminal = done.0 }, done.1)
 
+-- the receiving entity of a bearer makes its node send a status report
+abbrev pub reported_by : Dir → Table → ℕ → Option Entities → Table × Outcome
+reported_by d table id None = (table, (answer.No NoBearer, []))
+reported_by d table id (Some e) = let done = reports d e in (with_bearer table id (Some done.0), (answer.Ok, done.1))
+
+-- a report is asked of a node; a secondary has no bearer
+abbrev pub report_of : Nodes → Node → ℕ → Nodes × Outcome
+report_of s M id =
+    let done = reported_by Dl s.master id (unless_open s.busy (bearer_in s.master id)) in (record s { master = done.0 }, done.1)
+report_of s T id = let done = reported_by Ul s.terminal id (bearer_in s.terminal id) in (record s { terminal = done.0 }, done.1)
+report_of s _ id = (s, (answer.No NoBearer, []))
+
 -- the bearers of the node that receives
 abbrev pub table_at : Node → Nodes → Table
 table_at T s = s.terminal
@@ -74,7 +83,7 @@ table_at _ s = no_bearers
 
 -- the receiver of a link takes a flight from it
 abbrev pub taken_from : Header → Nodes → Node → Node → Class → Flight → Nodes × List Line
-taken_from h s M T Ctl f = told_terminal s f
+taken_from h s M T Ctl f = told_terminal h s f
 taken_from h s T M Ctl f = told_master s f
 taken_from h s M T Air f = let done = air_taken h Dl s.terminal f in (record s { terminal = done.0 }, done.1)
 taken_from h s T M Air f = let done = air_taken h Ul s.master f in (record s { master = done.0 }, done.1)
@@ -101,6 +110,8 @@ tunnelled w l f lines =
 -- what an event does at the nodes, and its answer with the lines after it, where there are so many policies
 abbrev pub decided : ℕ → WorldState → Event → Nodes × Outcome
 decided policies w (Bearer id n first shape threshold policy) = commanded policies w.header w.nodes id n first shape threshold policy
+decided policies w (Recover id) = recovery_commanded w.header w.nodes id
+decided policies w (Report node id) = report_of w.nodes node id
 decided policies w (Submit id d payload) = submission w.header w.nodes id payload d
 decided policies w (Step l i) = stepped w l i (slice_get (on w.links l) i)
 decided policies w (Lose l i) = tunnelled w l (slice_get (on w.links l) i) (λ f. [])
