@@ -76,34 +76,6 @@ module _ (h : Header) (t : List Entry) (s : Nodes) (t' : List Entry) (s' : Nodes
   Promise-later A to class f promise = absurd promise
   Promise-later B to class f promise = absurd promise
 
--- a bearer and direction that an entry says nothing of is served as before
-pub served_same : (t : List Entry) (s : Nodes) (links : Links) (b : Established) (d : Dir) (e : Entry) (s' : Nodes) (links' : Links) → IsServed t s links b d
-    → submission b d t e ≡ [] → ups b d t e ≡ [] → confirms b d t e ≡ [] → ((num : ℕ) → flat_map (tag_of (leg d) b.id b.g num) (sends e.lines) ≡ [])
-    → half b (sender_table d s') ≡ half b (sender_table d s) → half b (receiver_table d s') ≡ half b (receiver_table d s)
-    → ((c : ℕ) → IsUnderWay b c (on links (leg d)) → IsUnderWay b c (on links' (leg d)))
-    → IsServed (t ++ e ∷ []) s' links' b d
-served_same t s links b d e s' links' served submits runs confirms_none tags sender receiver flying =
-    let S : submitted b d (t ++ e ∷ []) ≡ submitted b d t = submitted-next b d t e ∙ ap (λ xs. submitted b d t ++ xs) submits ∙ append-nil (submitted b d t) in
-    let H : handed b d (t ++ e ∷ []) ≡ handed b d t = handed-next b d t e ∙ ap (λ xs. handed b d t ++ xs) runs ∙ append-nil (handed b d t) in
-    let C : confirmed b d (t ++ e ∷ []) ≡ confirmed b d t = confirmed-next b d t e ∙ ap (λ xs. confirmed b d t ++ xs) confirms_none ∙ append-nil (confirmed b d t) in
-    let lane = λ (xs : List (List ℕ)) (cs : List ℕ) (x y : Entities). IsLane b.n b.first xs cs x.tx x.sent y.rx in
-    record {
-      lane = subst (λ xs. lane xs (confirmed b d (t ++ e ∷ [])) (half b (sender_table d s')) (half b (receiver_table d s'))) (sym S)
-          (subst (λ cs. lane (submitted b d t) cs (half b (sender_table d s')) (half b (receiver_table d s'))) (sym C)
-          (subst (λ x. lane (submitted b d t) (confirmed b d t) x (half b (receiver_table d s'))) (sym sender)
-          (subst (λ y. lane (submitted b d t) (confirmed b d t) (half b (sender_table d s)) y) (sym receiver) served.lane)));
-      handed_is = H ∙ served.handed_is
-          ∙ ap (λ (y : Entities). numbered b.first (take (y.rx.deliv - b.first) (submitted b d t))) (sym receiver)
-          ∙ ap (λ xs. numbered b.first (take ((half b (receiver_table d s')).rx.deliv - b.first) xs)) (sym S);
-      came = λ c from got. SomeEntry-later (TakesData b d c) t e (served.came c from (subst (λ (y : Entities). Received y.rx c) receiver got));
-      owed = λ c from below. elim (served.owed c from (subst (λ (x : Entities). c < x.tx.next) sender below)) [
-        | inl got ↦ inl (subst (λ (y : Entities). Received y.rx c) (sym receiver) got)
-        | inr way ↦ inr (flying c way)
-      ];
-      numbers = λ num. tags_sent-next (leg d) b.id b.g num t e ∙ ap (λ xs. tags_sent (leg d) b.id b.g num t ++ xs) (tags num)
-          ∙ append-nil (tags_sent (leg d) b.id b.g num t) ∙ served.numbers num ∙ ap (λ (x : Entities). listed (slice_get x.sent num)) (sym sender);
-    }
-
 -- what was handed up is a front of what was submitted, and all of it where no flight stands on a link
 served_prefix : (t : List Entry) (s : Nodes) (links : Links) (b : Established) (d : Dir) → IsServed t s links b d
     → (rest : List (ℕ × List ℕ)) × (numbered b.first (submitted b d t) ≡ handed b d t ++ rest)

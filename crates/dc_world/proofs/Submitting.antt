@@ -37,7 +37,11 @@ use Rattle.dc_world.proofs.Lane.{IsLane, low_is, lane_taken}
 use Rattle.dc_world.proofs.Taking.{is_data_flight}
 use Rattle.dc_world.proofs.Tables.{with_sender, is_established}
 use Rattle.dc_world.proofs.Contents.{on_moved}
-use Rattle.dc_world.proofs.Changing.{IsPlain, plans_same, generation_same, there_then, there_before, Keeps, keeps_changed, half_at, half_here, Apart, parted, sender_after, sender_apart, tabled_same, grows_same, phase_same, served_next, served_still, no_ups, no_frees, no_move, under_way_left}
+use Rattle.dc_world.proofs.Directions.{Apart, parted, same_dir, other_dir, direction_leg, not_named}
+use Rattle.dc_world.proofs.Tables.{Keeps, half_at, sender_put, sender_put_same, sender_put_here, sender_put_apart, sender_put_rx, keeps_all, keeps_sender}
+use Rattle.dc_world.proofs.Plain.{IsPlain, plans_same, generation_same, there_then, there_before, tabled_same, phase_same}
+use Rattle.dc_world.proofs.Served.{lane_same, under_way_left, served_next, served_still}
+use Rattle.dc_world.proofs.Silent.{no_ups, no_frees, no_move, none_carried, none_sent_still, grows_same, IsSilent, plain_happened}
 use Rattle.dc_world.proofs.Sound.{half, sender_table, receiver_table, IsPduOf, IsUnderWay, PromiseOf, Phase, listed, IsServed, NoneSent, Happened, Sound}
 
 -- ---- the sending entity
@@ -97,11 +101,6 @@ own_leg : (d : Dir) (f : Flight) → put_on (leg d) (line.Send (leg d) f ∷ [])
 own_leg Dl f = refl
 own_leg Ul f = refl
 
--- the leg of a direction carries it
-direction_leg : (d : Dir) → direction (leg d) ≡ d
-direction_leg Dl = refl
-direction_leg Ul = refl
-
 -- a leg is the same as itself
 same_leg : (d : Dir) → is_same_link (leg d) (leg d) ≡ true
 same_leg Dl = refl
@@ -111,16 +110,6 @@ same_leg Ul = refl
 other_leg : (d : Dir) → is_same_link (leg (other d)) (leg d) ≡ false
 other_leg Dl = refl
 other_leg Ul = refl
-
--- a direction is the same as itself
-same_dir : (d : Dir) → is_same_dir d d ≡ true
-same_dir Dl = refl
-same_dir Ul = refl
-
--- the two directions are two
-other_dir : (d : Dir) → is_same_dir d (other d) ≡ false
-other_dir Dl = refl
-other_dir Ul = refl
 
 -- a PDU of the direction of its leg is promised
 promised : (h : Header) (t : List Entry) (s : Nodes) (d : Dir) (f : Flight) → IsPduOf h t d f → PromiseOf h t s (leg d, f)
@@ -192,11 +181,15 @@ module _ (h : Header) (policies : ℕ) (t : List Entry) (w : WorldState) (sound 
 
     -- no generation is drawn
     plain : IsPlain entry
-    plain = record { no_plan = λ g. refl; no_draw = refl; no_end = λ g. refl; no_set = λ k has. refl }
+    plain = record { undrawn = record { no_plan = λ g. refl; no_draw = refl }; no_end = λ g. refl; no_set = λ k has. refl }
 
-    -- each bearer keeps its receiving side
+    -- each place keeps its bearer
     keeps : Keeps w.nodes after
-    keeps = keeps_changed d w.nodes id e e' at refl refl
+    keeps = keeps_sender d w.nodes id e e' at refl
+
+    -- and its receiving side
+    rx_still : (b' : Established) (d' : Dir) → (half b' (receiver_table d' after)).rx ≡ (half b' (receiver_table d' w.nodes)).rx
+    rx_still b' d' = sender_put_rx d w.nodes id e e' at refl b' d'
 
     -- another established bearer of the identity is none
     the_bearer : (b' : Established) → Contains (established t) b' → b'.id ≡ id → b' ≡ b
@@ -249,7 +242,7 @@ module _ (h : Header) (policies : ℕ) (t : List Entry) (w : WorldState) (sound 
 
     -- and holds then
     half_after : half b (sender_table d after) ≡ e'
-    half_after = ap (half b) (sender_after d w.nodes (with_bearer (sender_table d w.nodes) id (Some e'))) ∙ half_here b (sender_table d w.nodes) id e e' at named
+    half_after = sender_put_here d w.nodes b id e e' at named
 
     -- the bearer was served
     was : IsServed t w.nodes w.links b d
@@ -288,11 +281,8 @@ module _ (h : Header) (policies : ℕ) (t : List Entry) (w : WorldState) (sound 
     served_here =
         let xs' : submitted b d t ++ submission b d t entry ≡ submitted b d t ++ payload ∷ [] = ap (λ xs. submitted b d t ++ xs) submission_here in
         let cs' : confirmed b d t ++ confirms b d t entry ≡ confirmed b d t = ap (λ cs. confirmed b d t ++ cs) (nothing_confirmed b d) ∙ append-nil (confirmed b d t) in
-        let rx : RxParts = (half b (receiver_table d w.nodes)).rx in
-        served_next t entry plain w.nodes after keeps w.links links' b d was (no_ups b d t entry refl)
-        (subst (λ (x : Entities). IsLane b.n b.first (submitted b d t ++ submission b d t entry) (confirmed b d t ++ confirms b d t entry) x.tx x.sent rx) (sym half_after)
-        (subst (λ xs. IsLane b.n b.first xs (confirmed b d t ++ confirms b d t entry) tx (e.sent ++ c ∷ []) rx) (sym xs')
-        (subst (λ cs. IsLane b.n b.first (submitted b d t ++ payload ∷ []) cs tx (e.sent ++ c ∷ []) rx) (sym cs') taken_lane.1)))
+        served_next t w.nodes w.links b d entry after links' was (no_ups b d t entry refl) (rx_still b d)
+        (lane_same b.n b.first _ _ _ _ _ _ _ _ _ _ xs' cs' (ap (λ (x : Entities). x.tx) half_after) (ap (λ (x : Entities). x.sent) half_after) refl taken_lane.1)
         (λ k from below. owed_here k from (subst (λ (x : Entities). k < x.tx.next) half_after below))
         (λ num.
         ap (λ xs. xs ++ flat_map (tag_of (leg d) b.id b.g num) (sends entry.lines)) (was.numbers num ∙ ap (λ (x : Entities). listed (slice_get x.sent num)) half_before)
@@ -308,9 +298,10 @@ module _ (h : Header) (policies : ℕ) (t : List Entry) (w : WorldState) (sound 
               subst (λ k. IsServed (t ++ entry ∷ []) after links' b' k) (sym same.0)
               (subst (λ x. IsServed (t ++ entry ∷ []) after links' x d) (sym (the_bearer b' at' same.1)) served_here)
           | inr apart ↦
-              served_still t entry plain w.nodes after keeps w.links links' b' d' (sound.served b' d' at') (no_ups b' d' t entry refl)
+              let same : half b' (sender_table d' after) ≡ half b' (sender_table d' w.nodes) = sender_put_apart d w.nodes id e' b' d' apart in
+              served_still t w.nodes w.links b' d' entry after links' (sound.served b' d' at') (no_ups b' d' t entry refl) (rx_still b' d')
               (submission_apart b' d' apart) (nothing_confirmed b' d') (λ num. tag_apart b' d' num apart)
-              (sender_apart d w.nodes id (Some e') b' d' apart) (flying b' d')
+              (ap (λ (x : Entities). x.tx) same) (ap (λ (x : Entities). x.sent) same) (λ k way. inr (flying b' d' k way))
         ]
 
     -- ---- the PDU
@@ -334,7 +325,7 @@ module _ (h : Header) (policies : ℕ) (t : List Entry) (w : WorldState) (sound 
           sdu = payload;
           submission = submission_then;
           key = master_key 0;
-          keyed = ap (key_in b.g b.id) (plans_same t entry plain) ∙ sound.tables.keyed b here;
+          keyed = ap (key_in b.g b.id) (plans_same t entry plain.undrawn) ∙ sound.tables.keyed b here;
           spelled = refl;
         }
 
@@ -342,7 +333,7 @@ module _ (h : Header) (policies : ℕ) (t : List Entry) (w : WorldState) (sound 
     protects_all : (b' : Established) (d' : Dir) → Contains (established (t ++ entry ∷ [])) b' → Protects h b' d' t entry
     protects_all b' d' at' = (
       λ is.
-          let same : b' ≡ b = the_bearer b' (there_before t entry plain b' at') (sym is.1 ∙ named) in
+          let same : b' ≡ b = the_bearer b' (there_before t entry plain.undrawn b' at') (sym is.1 ∙ named) in
           let dir : d' ≡ d = sym (sym (direction_leg d) ∙ is.3) in
           let pdu : List ℕ = data_pdu b.n (sn b.n c) (ciphered h b.id d c payload) in
           subst (λ k. ProtectsSubmission h (t ++ entry ∷ []) b' k b.g (Some c) pdu) (sym dir)
@@ -358,7 +349,7 @@ module _ (h : Header) (policies : ℕ) (t : List Entry) (w : WorldState) (sound 
         let place : length e.sent ≡ c - b.first = omega arith in
         record {
           bearer = b;
-          there = there_then t entry plain b here;
+          there = there_then t entry plain.undrawn b here;
           count = c;
           payload = payload;
           good = good;
@@ -377,7 +368,7 @@ module _ (h : Header) (policies : ℕ) (t : List Entry) (w : WorldState) (sound 
               ap (λ (x : Entities). low x.tx) half_after ∙ (has_room e.tx tx payload c ok).still ∙ sym (ap (λ (x : Entities). low x.tx) half_before) in
               subst (λ k. low (half b' (sender_table k after)).tx ≡ low (half b' (sender_table k w.nodes)).tx) (sym same.0)
               (subst (λ x. low (half x (sender_table d after)).tx ≡ low (half x (sender_table d w.nodes)).tx) (sym (the_bearer b' at' same.1)) here')
-          | inr apart ↦ ap (λ (x : Entities). low x.tx) (sender_apart d w.nodes id (Some e') b' d' apart)
+          | inr apart ↦ ap (λ (x : Entities). low x.tx) (sender_put_apart d w.nodes id e' b' d' apart)
         ]
 
     -- there was room, and a COUNT was left
@@ -417,7 +408,7 @@ module _ (h : Header) (policies : ℕ) (t : List Entry) (w : WorldState) (sound 
     -- under a generation that was drawn
     none_sent : NoneSent (t ++ entry ∷ [])
     none_sent l k g num later =
-        let before : generation t < g = subst (λ n. n < g) (generation_same t entry plain) later in
+        let before : generation t < g = subst (λ n. n < g) (generation_same t entry plain.undrawn) later in
         let drawn : b.g ≤ generation t = established_drawn t b here in
         let none : flat_map (tag_of l k g num) (sends entry.lines) ≡ [] =
         (let unlike : (b.g == g) ≡ false = ne_eqb b.g g (λ is. omega arith) in
@@ -441,17 +432,14 @@ module _ (h : Header) (policies : ℕ) (t : List Entry) (w : WorldState) (sound 
     happened = record {
       tables = tabled_same t entry plain w.nodes after keeps sound.tables;
       phase = phase;
-      served = λ b' d' at'. served_all b' d' (there_before t entry plain b' at');
-      grows = grows_same t entry plain w.nodes after keeps;
+      served = λ b' d' at'. served_all b' d' (there_before t entry plain.undrawn b' at');
+      grows = grows_same t entry w.nodes after (there_then t entry plain.undrawn) (λ b' d' at'. rx_still b' d');
       sent = (promised h (t ++ entry ∷ []) after d f pdu, tt);
       none_sent = none_sent;
       protects = protects_all;
-      carried = λ b' d' at'. subst (AllByRecursion (λ up. SomeEntry (TakesData b' d' up.0) (t ++ entry ∷ []))) (sym (no_ups b' d' t entry refl)) tt;
-      freed = λ b' d' at'.
-          let before = low (half b' (sender_table d' w.nodes)).tx in
-          no_frees b' d' t entry refl
-          ∙ subst (λ k. [] ≡ (if nat_lt before k then k ∷ [] else [])) (sym (low_still b' d' (there_before t entry plain b' at'))) (sym (no_move before));
-      fresh_before = λ b' at'. inl (there_before t entry plain b' at');
+      carried = λ b' d' at'. none_carried b' d' t entry (no_ups b' d' t entry refl);
+      freed = λ b' d' at'. no_frees b' d' t entry refl ∙ no_move _ _ (low_still b' d' (there_before t entry plain.undrawn b' at'));
+      fresh_before = λ b' at'. inl (there_before t entry plain.undrawn b' at');
       cause = sym (ap (submit_answer d t) there ∙ due);
       licence = licence;
     }
