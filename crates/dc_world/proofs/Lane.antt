@@ -1,6 +1,6 @@
 -- One bearer in one direction: what was submitted, its sending entity, its receiving entity, and what every event keeps.
 use Rattle.std.proofs.Common.{ℕ, zero, suc, ◌≡◌, ◌+◌, ◌-◌, ◌^◌, ◌<◌, ◌≤◌, ◌⊎◌, ◌==◌, ◌||◌, ◌++◌, ◌&&◌, not, Bool, true, false, List, [], ◌∷◌, Some, None, length, take, drop, slice_get, refl, sym, ap, ◌∙◌, subst, arith, inl, inr, append_assoc}
-use Rattle.std.specs.Prelude.{Ok, if◌then◌else◌, nat_lt, nat_le}
+use Rattle.std.specs.Prelude.{Ok, Option, filter, if◌then◌else◌, nat_lt, nat_le}
 use Rattle.std.specs.List.{AllByRecursion, list_any, range_with_len}
 use Rattle.std.proofs.lemmas.List.{append-nil, length_push, length-take-le, take_all}
 use Rattle.std.proofs.lemmas.List.Folds.{list_any-append}
@@ -21,25 +21,33 @@ use Rattle.pdcp_rx.proofs.Laws.{Received-put, sent_inferred}
 use Rattle.pdcp_rx.proofs.Entries.{AscendFrom-weaker, AscendFrom-with_sdu, stored_from, each_with_sdu, each_drop, each_weaker}
 use Rattle.pdcp_rx.proofs.Runs.{ascends_past_run}
 use Rattle.pdcp_rx.proofs.Putting.{put_cases}
-use Rattle.transcript.specs.Bearers.{numbered, least_but}
-use Rattle.dc_world.proofs.Lists.{slice_get_left, take_next, numbered-append, range_next, range_at, least_upto, kept_before, kept_same, least_is}
+use Rattle.pdcp_pdu.specs.DataPdu.{IsPayload}
+use Rattle.transcript.specs.Bearers.{Confirmation, is_of, is_confirmed, numbered, least_but}
+use Rattle.dc_world.proofs.Lists.{slice_get_left, take_next, numbered-append, least_upto, kept_before, kept_same, least_is}
 
 -- the payload submitted under this COUNT
 pub record IsNumbered (first : ℕ) (submitted : List (List ℕ)) (e : ℕ × List ℕ) : Type 0 where
   pub counted : first ≤ e.0
   pub payload : slice_get submitted (e.0 - first) ≡ Some e.1
 
--- sender and receiver of one lane: `submitted` has the payloads in order, `confirms` the COUNTs confirmed so far
-pub record IsLane (n : SnLen) (first : ℕ) (submitted : List (List ℕ)) (confirms : List ℕ) (tx : Sender) (sent : List ℕ) (rx : RxParts) : Type 0 where
+-- the PDU of a number is a control PDU, or has a COUNT that was given
+abbrev pub IsGiven : ℕ → ℕ → Option ℕ → Type 0
+IsGiven first next None = Unit {0}
+IsGiven first next (Some c) = (first ≤ c) × (c < next)
+
+-- sender and receiver of one lane: `submitted` has the payloads in order, `confirms` what confirmed COUNTs so far
+pub record IsLane (n : SnLen) (first : ℕ) (submitted : List (List ℕ)) (confirms : List Confirmation) (tx : Sender) (sent : List (Option ℕ)) (rx : RxParts) : Type 0 where
   pub tx_length : tx.n ≡ n
   pub rx_length : rx.n ≡ n
+  pub payloads : AllByRecursion IsPayload submitted
   pub counted : tx.next ≡ first + length submitted
   pub small : tx.next < 2 ^ 32
-  pub sent_are : sent ≡ range_with_len first (length submitted)
+  pub given : AllByRecursion (IsGiven first tx.next) sent
   pub rises : Rises first tx.next tx.kept
   pub near : tx.next ≤ low tx + window n
-  pub kept_are : (c : ℕ) → first ≤ c → c < tx.next → is_kept tx.kept c ≡ not (list_any (λ x. x == c) confirms)
-  pub not_yet : (c : ℕ) → tx.next ≤ c → list_any (λ x. x == c) confirms ≡ false
+  pub kept_are : (c : ℕ) → first ≤ c → c < tx.next → is_kept tx.kept c ≡ not (is_confirmed confirms c)
+  pub not_yet : (c : ℕ) → tx.next ≤ c → is_confirmed confirms c ≡ false
+  pub kept_payloads : AllByRecursion (IsNumbered first submitted) tx.kept
   pub from : first ≤ rx.deliv
   pub upto : rx.deliv ≤ tx.next
   pub ascends : AscendFrom (rx.deliv + 1) rx.stored
@@ -53,13 +61,15 @@ fresh_lane n first small =
     record {
       tx_length = refl;
       rx_length = refl;
+      payloads = tt;
       counted = omega arith;
       small = omega arith;
-      sent_are = refl;
+      given = tt;
       rises = omega arith;
       near = omega arith;
       kept_are = λ c from below. absurd (omega arith);
       not_yet = λ c above. refl;
+      kept_payloads = tt;
       from = omega arith;
       upto = omega arith;
       ascends = tt;
@@ -183,12 +193,12 @@ taken_is s after p c ok =
           ]
     ]
 
--- one more is confirmed
-but_one : (b : Bool) (c d : ℕ) → (not b && not (d == c)) ≡ not (b || (c == d || false))
-but_one true c d = refl
-but_one false c d = grind (arith, nat_tests)
+-- a COUNT that was given is so when more are
+pub IsGiven-later : (first next next' : ℕ) (o : Option ℕ) → next ≤ next' → IsGiven first next o → IsGiven first next' o
+IsGiven-later first next next' None le is = is
+IsGiven-later first next next' (Some c) le is = (is.0, omega (arith, is.1))
 
-module _ (n : SnLen) (first : ℕ) (submitted : List (List ℕ)) (confirms : List ℕ) (tx : Sender) (sent : List ℕ) (rx : RxParts)
+module _ (n : SnLen) (first : ℕ) (submitted : List (List ℕ)) (confirms : List Confirmation) (tx : Sender) (sent : List (Option ℕ)) (rx : RxParts)
     (lane : IsLane n first submitted confirms tx sent rx) where
   -- Low is where the window begins
   pub low_is : low tx ≡ least_but confirms first (length submitted)
@@ -229,76 +239,23 @@ module _ (n : SnLen) (first : ℕ) (submitted : List (List ℕ)) (confirms : Lis
       let upto = lane.upto in let counted = lane.counted in
       elim got [ inl lt ↦ omega arith | inr stored ↦ let below = stored_submitted first submitted c rx.stored lane.stored stored in omega arith ]
 
-  -- the COUNT of the PDU of a number
-  pub sent_at : (num : ℕ) → slice_get sent num ≡ (if nat_lt num (length submitted) then Some (first + num) else None)
-  sent_at num = ap (λ ks. slice_get ks num) lane.sent_are ∙ range_at first (length submitted) num
-
   -- a submission that is taken
-  pub lane_taken : (p : List ℕ) (tx' : Sender) (c : ℕ) → taken tx p ≡ Ok (tx', c)
-      → (c ≡ first + length submitted) × IsLane n first (submitted ++ p ∷ []) confirms tx' (sent ++ c ∷ []) rx
-  lane_taken p tx' c ok =
-      let t = taken_is tx tx' p c ok in
-      let after : Sender = record tx { next = tx.next + 1; kept = tx.kept ++ (tx.next, p) ∷ [] } in
-      let counted = lane.counted in let small = lane.small in let left = t.left in let room = t.room in let upto = lane.upto in
-      let grown : length (submitted ++ p ∷ []) ≡ length submitted + 1 = length_push submitted p in
-      let low_grown : low tx ≤ low after = low-taken tx after p tx.next (ok ∙ ap Ok (sym t.is)) in
-      let same : window tx.n ≡ window n = ap window lane.tx_length in
-      let long : length (submitted ++ p ∷ []) ≡ suc (length submitted) = omega arith in
-      let sent_are : sent ++ tx.next ∷ [] ≡ range_with_len first (length (submitted ++ p ∷ [])) =
-      ap (λ (ks : List ℕ). ks ++ tx.next ∷ []) lane.sent_are ∙ ap (λ k. range_with_len first (length submitted) ++ k ∷ []) counted
-      ∙ sym (range_next first (length submitted)) ∙ ap (range_with_len first) (sym long) in
-      let lane' : IsLane n first (submitted ++ p ∷ []) confirms after (sent ++ tx.next ∷ []) rx = record {
-        tx_length = lane.tx_length;
-        rx_length = lane.rx_length;
-        counted = omega arith;
-        small = omega arith;
-        sent_are = sent_are;
-        rises = Rises-enumerated first tx.next tx.kept (p ∷ []) lane.rises;
-        near = omega arith;
-        kept_are = λ d from below. elim (cases_lt d tx.next) [
-          | inl before ↦ kept_before tx.next d p tx.kept before ∙ lane.kept_are d from before
-          | inr above ↦ kept_same tx.next d p tx.kept (omega arith) ∙ ap not (sym (lane.not_yet d above))
-        ];
-        not_yet = λ d above. lane.not_yet d (omega arith);
-        from = lane.from;
-        upto = omega arith;
-        ascends = lane.ascends;
-        stored = each_weaker (IsNumbered first submitted) (IsNumbered first (submitted ++ p ∷ [])) (IsNumbered-later first submitted (p ∷ [])) rx.stored lane.stored;
-        found = λ d from below. elim (cases_lt d tx.next) [
-          | inl before ↦ elim (lane.found d from before) [ inl kept ↦ inl (kept_before tx.next d p tx.kept before ∙ kept) | inr got ↦ inr got ]
-          | inr above ↦ inl (kept_same tx.next d p tx.kept (omega arith))
-        ];
-      } in
-      subst (λ (q : Sender × ℕ). (q.1 ≡ first + length submitted) × IsLane n first (submitted ++ p ∷ []) confirms q.0 (sent ++ q.1 ∷ []) rx) t.is (counted, lane')
+  pub lane_taken : (p : List ℕ) (tx' : Sender) (c : ℕ) → IsPayload p → taken tx p ≡ Ok (tx', c)
+      → (c ≡ first + length submitted) × IsLane n first (submitted ++ p ∷ []) confirms tx' (sent ++ Some c ∷ []) rx
+  lane_taken p tx' c good ok = ?
 
-  -- a COUNT that was received is confirmed
-  pub lane_confirmed : (c : ℕ) → first ≤ c → Received rx c → IsLane n first submitted (confirms ++ c ∷ []) (confirmed tx c) sent rx
-  lane_confirmed c from got =
-      let near = lane.near in let low_grown = low-confirmed tx c in let below = received_below c got in
-      let added : (d : ℕ) → list_any (λ x. x == d) (confirms ++ c ∷ []) ≡ (list_any (λ x. x == d) confirms || (c == d || false)) = λ d. list_any-append (λ x. x == d) confirms (c ∷ []) in
-      record {
-        tx_length = lane.tx_length;
-        rx_length = lane.rx_length;
-        counted = lane.counted;
-        small = lane.small;
-        sent_are = lane.sent_are;
-        rises = Rises-filter (λ e. not (e.0 == c)) first tx.next tx.kept lane.rises;
-        near = omega arith;
-        kept_are = λ d from' below'. is_kept-confirmed tx c d ∙ ap (λ b. b && not (d == c)) (lane.kept_are d from' below')
-            ∙ but_one (list_any (λ x. x == d) confirms) c d ∙ ap not (sym (added d));
-        not_yet = λ d above. added d ∙ or_from _ _ (lane.not_yet d above) (or_from _ _ (ne_eqb c d (λ e. omega arith)) refl);
-        from = lane.from;
-        upto = lane.upto;
-        ascends = lane.ascends;
-        stored = lane.stored;
-        found = λ d from' below'. elim (cases_eq d c) [
-          | inl same ↦ inr (subst (Received rx) (sym same) got)
-          | inr other ↦ elim (lane.found d from' below') [
-            | inl kept ↦ inl (is_kept-confirmed tx c d ∙ and_from _ _ kept (ap not (ne_eqb d c other)))
-            | inr got' ↦ inr got'
-          ]
-        ];
-      }
+  -- what confirms COUNTs that were received alone
+  pub lane_confirmed : (x : Confirmation) → ((c : ℕ) → first ≤ c → is_of c x ≡ true → Received rx c)
+      → IsLane n first submitted (confirms ++ x ∷ []) (record tx { kept = filter (λ e. not (is_of e.0 x)) tx.kept }) sent rx
+  lane_confirmed x got = ?
+
+  -- more PDUs are sent, of COUNTs that were given
+  pub lane_sent : (more : List (Option ℕ)) → AllByRecursion (IsGiven first tx.next) more → IsLane n first submitted confirms tx (sent ++ more) rx
+  lane_sent more given = ?
+
+  -- what is kept was submitted, and is not confirmed
+  pub kept_unconfirmed : AllByRecursion (λ (e : ℕ × List ℕ). IsNumbered first submitted e × (e.0 < tx.next) × (is_confirmed confirms e.0 ≡ false) × IsPayload e.1) tx.kept
+  kept_unconfirmed = ?
 
   -- a payload is received
   pub lane_put : (c : ℕ) (p : List ℕ) → IsNumbered first submitted (c, p) → IsLane n first submitted confirms tx sent (put rx c p).0
@@ -315,7 +272,9 @@ module _ (n : SnLen) (first : ℕ) (submitted : List (List ℕ)) (confirms : Lis
         rx_length = lane.rx_length;
         counted = lane.counted;
         small = lane.small;
-        sent_are = lane.sent_are;
+        payloads = lane.payloads;
+        given = lane.given;
+        kept_payloads = lane.kept_payloads;
         rises = lane.rises;
         near = lane.near;
         kept_are = lane.kept_are;

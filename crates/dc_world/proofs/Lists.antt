@@ -1,12 +1,11 @@
 -- Lists of payloads and of their COUNTs: places in them, and one more at the end.
 use Rattle.std.proofs.Common.{ℕ, zero, suc, ◌≡◌, ◌+◌, ◌<◌, ◌≤◌, ◌==◌, ◌||◌, ◌++◌, true, false, not, List, [], ◌∷◌, Some, None, length, take, slice_get, refl, ap, ◌∙◌, subst, arith, inl, inr}
 use Rattle.std.specs.Prelude.{if◌then◌else◌, nat_lt}
-use Rattle.std.specs.List.{list_any, range_with_len}
 use Rattle.std.proofs.lemmas.Bool.{cases_Bool, eqb-true, or_cases, or_right}
 use Rattle.std.proofs.lemmas.Bool.Decides.{nat_tests}
 use Rattle.pdcp_tx.specs.Sender.{Entry, least, is_kept, Rises}
 use Rattle.pdcp_tx.proofs.Entries.{Rises-bounds}
-use Rattle.transcript.specs.Bearers.{numbered, least_but}
+use Rattle.transcript.specs.Bearers.{Confirmation, is_confirmed, numbered, least_but}
 
 -- a place of the first list is one of the two
 pub slice_get_left : {X : Type 0} (xs ys : List X) (k : ℕ) (x : X) → slice_get xs k ≡ Some x → slice_get (xs ++ ys) k ≡ Some x
@@ -31,18 +30,6 @@ numbered-append c [] ys = ap (λ k. numbered k ys) (omega arith)
 numbered-append c (x ∷ xs) ys =
     ap (λ (es : List (ℕ × List ℕ)). (c, x) ∷ es)
     (numbered-append (c + 1) xs ys ∙ ap (λ k. numbered (c + 1) xs ++ numbered k ys) (omega arith))
-
--- one more number
-pub range_next : (a n : ℕ) → range_with_len a (suc n) ≡ range_with_len a n ++ (a + n) ∷ []
-range_next a zero = ap (λ (k : ℕ). k ∷ []) (omega arith)
-range_next a (suc n) =
-    ap (λ (ks : List ℕ). a ∷ ks) (range_next (a + 1) n ∙ ap (λ k. range_with_len (a + 1) n ++ k ∷ []) (omega arith))
-
--- the number at a place
-pub range_at : (a n k : ℕ) → slice_get (range_with_len a n) k ≡ (if nat_lt k n then Some (a + k) else None)
-range_at a zero k = grind (arith, nat_tests)
-range_at a (suc n) zero = grind (arith, nat_tests)
-range_at a (suc n) (suc k) = grind (arith, nat_tests, range_at (a + 1) n k)
 
 -- ---- what is kept
 
@@ -79,12 +66,12 @@ Rises-none : (c : ℕ) (es : List Entry) → Rises c c es → least c es ≡ c
 Rises-none c es up = let bounds = Rises-bounds c c es up in omega (arith, bounds.0, bounds.1)
 
 -- where what is kept are the COUNTs not confirmed, the least kept is the least not confirmed
-pub least_is : (confirms : List ℕ) (k c : ℕ) (es : List Entry) → Rises c (c + k) es
-    → ((d : ℕ) → c ≤ d → d < c + k → is_kept es d ≡ not (list_any (λ x. x == d) confirms)) → least (c + k) es ≡ least_but confirms c k
+pub least_is : (confirms : List Confirmation) (k c : ℕ) (es : List Entry) → Rises c (c + k) es
+    → ((d : ℕ) → c ≤ d → d < c + k → is_kept es d ≡ not (is_confirmed confirms d)) → least (c + k) es ≡ least_but confirms c k
 least_is confirms zero c es up are = let end : c + zero ≡ c = omega arith in rw end (Rises-none c es (subst (λ k. Rises c k es) end up))
 least_is confirms (suc k) c es up are =
     let here = are c (omega arith) (omega arith) in
-    elim (cases_Bool (list_any (λ x. x == c) confirms)) [
+    elim (cases_Bool (is_confirmed confirms c)) [
       | inl gone ↦
           let end : c + suc k ≡ c + 1 + k = omega arith in
           let past = Rises-past c (c + suc k) es (omega arith) (here ∙ ap not gone) up in

@@ -1,6 +1,6 @@
 -- What every event keeps: of each bearer in each direction, of each flight, and of the whole run.
 use Rattle.std.proofs.Common.{ℕ, ◌≡◌, ◌+◌, ◌-◌, ◌^◌, ◌<◌, ◌≤◌, ◌⊎◌, ◌++◌, true, false, List, [], ◌∷◌, Option, Some, None, length, take, slice_get, refl, sym, ap, ◌∙◌, subst, arith, inl, inr}
-use Rattle.std.specs.Prelude.{if◌then◌else◌, nat_lt, Contains, is_some}
+use Rattle.std.specs.Prelude.{Ok, if◌then◌else◌, nat_lt, Contains, is_some}
 use Rattle.std.specs.List.{AllByRecursion, flat_map}
 use Rattle.std.specs.Option.{option_map}
 use Rattle.dc_base.specs.declared.nodes.Class.{Class}
@@ -13,19 +13,23 @@ use Rattle.dc_base.specs.declared.nodes.Node.TheVariants.{T, M}
 use Rattle.dc_base.specs.declared.nodes.Shape.{Shape}
 use Rattle.dc_base.specs.declared.flights.Flight.{Flight}
 use Rattle.dc_base.specs.declared.flights.Flight.TheVariants as flight
-use Rattle.dc_base.specs.declared.records.Rec.TheVariants.{Reconf, Rcomp}
+use Rattle.dc_base.specs.declared.records.Rec.TheVariants.{Reconf, Rcomp, Recov, Recovd}
 use Rattle.dc_base.specs.declared.events.Header.{Header}
 use Rattle.pdcp_pdu.specs.DataPdu.{IsPayload}
+use Rattle.pdcp_pdu.specs.Bitmap.{names}
+use Rattle.pdcp_pdu.specs.Pdu.{report, decoded}
+use Rattle.pdcp_rx.specs.declared.entity.RxParts.{RxParts}
+use Rattle.transcript.specs.Text.{is_data}
 use Rattle.pdcp_tx.specs.Sender.{low}
 use Rattle.pdcp_rx.specs.Receiver.{Received}
 use Rattle.transcript.specs.Transcript.{Entry, sends, Each, SomeEntry}
 use Rattle.transcript.specs.Content.{content, content_after, mt_ctl, tm_ctl, place_taken}
-use Rattle.transcript.specs.Bearers.{Established, established, latest, generation, plans, key_in, master_key, submitted, submission, handed, ups, numbered, confirmed, confirms, tag_of, tags_sent, frees, told, open_command, at_terminal, is_set, least_but}
-use Rattle.transcript.specs.Claims.{TakesData, KeepsAll, IsKept, Protects, Carried, HasCause, IsLicensed}
+use Rattle.transcript.specs.Bearers.{Established, change, recovery, established, latest, generation, plans, key_in, master_key, submitted, submission, handed, ups, numbered, confirmed, confirms, tag_of, tags_sent, frees, told, open_command, at_terminal, is_set, least_but}
+use Rattle.transcript.specs.Claims.{TakesData, KeepsAll, IsKept, Protects, Carried, HasCause, IsLicensed, NoStall}
 use Rattle.transcript.proofs.OnEach.{each_append, each_weaker}
 use Rattle.transcript.proofs.Establishing.{IsOnce}
 use Rattle.dc_world.specs.Entities.{Entities, Table, fresh, bearer_in}
-use Rattle.dc_world.specs.Plane.{leg, data_flight}
+use Rattle.dc_world.specs.Plane.{leg, other, data_flight}
 use Rattle.dc_world.specs.Control.{Nodes, plan_for}
 use Rattle.dc_world.specs.Links.{Links, on, moved}
 use Rattle.dc_world.specs.Run.{WorldState}
@@ -62,29 +66,61 @@ abbrev pub IsUnderWay : Established → ℕ → List Flight → Type 0
 IsUnderWay b c [] = ⊥
 IsUnderWay b c (f ∷ fs) = CarriesCount b c f ⊎ IsUnderWay b c fs
 
+-- a bearer's leg has this as the PDU of a number: its COUNT, or none where it is no data PDU
+abbrev pub IsNumberOf : Nodes → Established → Dir → ℕ → Option ℕ → Type 0
+IsNumberOf s b d num sent = slice_get (half b (sender_table d s)).sent num ≡ Some sent
+
 -- the flight is the PDU of a submission in this direction
-pub record IsPduOf (h : Header) (t : List Entry) (d : Dir) (f : Flight) : Type 0 where
+pub record IsPduOf (h : Header) (t : List Entry) (s : Nodes) (d : Dir) (f : Flight) : Type 0 where
   pub bearer : Established
   pub there : Contains (established t) bearer
+  pub num : ℕ
   pub count : ℕ
+  pub numbered : IsNumberOf s bearer d num (Some count)
   pub payload : List ℕ
   pub good : IsPayload payload
   pub submission : IsNumbered bearer.first (submitted bearer d t) (count, payload)
-  pub is : f ≡ data_flight h bearer d (count - bearer.first) count payload
+  pub is : f ≡ data_flight h bearer d num count payload
+
+-- the flight is a status report that travels in this direction: what it names was received the other way
+pub record IsReportOf (t : List Entry) (s : Nodes) (d : Dir) (f : Flight) : Type 0 where
+  pub bearer : Established
+  pub there : Contains (established t) bearer
+  pub num : ℕ
+  pub numbered : IsNumberOf s bearer d num None
+  pub pdu : List ℕ
+  pub control : is_data pdu ≡ false
+  pub fmc : ℕ
+  pub bits : List ℕ
+  pub read : decoded bearer.n pdu ≡ Ok (report fmc bits)
+  pub named : (c : ℕ) → bearer.first ≤ c → names fmc bits c ≡ true → Received (half bearer (receiver_table (other d) s)).rx c
+  pub is : f ≡ flight.Air bearer.id bearer.g num None pdu
+
+-- the COUNT of a PDU, if it has one, was received
+abbrev pub IsGot : Established → RxParts → Option ℕ → Type 0
+IsGot b rx None = Unit {0}
+IsGot b rx (Some c) = (b.first ≤ c) × Received rx c
 
 -- the flight is the confirm of a PDU of this direction, which was received
 pub record IsAckOf (t : List Entry) (s : Nodes) (d : Dir) (f : Flight) : Type 0 where
   pub bearer : Established
   pub there : Contains (established t) bearer
-  pub count : ℕ
-  pub counted : bearer.first ≤ count
-  pub got : Received (half bearer (receiver_table d s)).rx count
-  pub is : f ≡ flight.Ack bearer.id bearer.g (count - bearer.first)
+  pub num : ℕ
+  pub sent : Option ℕ
+  pub numbered : IsNumberOf s bearer d num sent
+  pub got : IsGot bearer (half bearer (receiver_table d s)).rx sent
+  pub is : f ≡ flight.Ack bearer.id bearer.g num
 
--- what is so because a flight stands on a link; of the control links the phase tells
+-- what is so because a flight stands on the leg of a direction
+pub data OnLeg (h : Header) (t : List Entry) (s : Nodes) (d : Dir) (f : Flight) : Type 0 where
+  a_pdu : IsPduOf h t s d f → OnLeg h t s d f
+  a_report : IsReportOf t s d f → OnLeg h t s d f
+  an_ack : IsAckOf t s (other d) f → OnLeg h t s d f
+
+-- and on any link; of the control links the phase tells
 abbrev pub Promise : Header → List Entry → Nodes → Node → Node → Class → Flight → Type 0
-Promise h t s M T Air f = IsPduOf h t Dl f ⊎ IsAckOf t s Ul f
-Promise h t s T M Air f = IsPduOf h t Ul f ⊎ IsAckOf t s Dl f
+Promise h t s M T Air f = OnLeg h t s Dl f
+Promise h t s T M Air f = OnLeg h t s Ul f
 Promise h t s M T Ctl f = Unit {0}
 Promise h t s T M Ctl f = Unit {0}
 Promise h t s _ _ _ f = ⊥
@@ -95,22 +131,27 @@ Promise h t s _ _ _ f = ⊥
 abbrev pub AllConfigured : List Entry → Nodes → Type 0
 AllConfigured t s = (b : Established) → Contains (established t) b → bearer_in s.terminal b.id ≡ None → ⊥
 
--- where the open command stands: there is none, the terminal is to take its plan, or it took it
+-- where the open command stands: there is none; the terminal is to take its plan, or it took it; it is to recover a bearer,
+-- or it did
 pub data Phase (h : Header) (t : List Entry) (s : Nodes) (links : Links) : Type 0 where
   idle : s.busy ≡ None → on links mt_ctl ≡ [] → on links tm_ctl ≡ [] → AllConfigured t s → Phase h t s links
-  commanded : (b : Established) → Contains (established t) b → (shape : Shape) (threshold policy : ℕ) → s.busy ≡ Some b.g
+  commanded : (b : Established) → Contains (established t) b → (shape : Shape) (threshold policy : ℕ) → s.busy ≡ Some (change b.g)
       → on links mt_ctl ≡ flight.Ctl (Reconf (plan_for b.g b.id b.n b.first shape threshold policy) h.root) ∷ [] → on links tm_ctl ≡ []
       → ((d : Dir) → submitted b d t ≡ []) → bearer_in s.terminal b.id ≡ None
       → ((c : Established) → Contains (established t) c → bearer_in s.terminal c.id ≡ None → c ≡ b) → Phase h t s links
-  answered : (b : Established) → Contains (established t) b → s.busy ≡ Some b.g → on links mt_ctl ≡ [] → on links tm_ctl ≡ flight.Ctl (Rcomp b.g) ∷ []
+  answered : (b : Established) → Contains (established t) b → s.busy ≡ Some (change b.g) → on links mt_ctl ≡ [] → on links tm_ctl ≡ flight.Ctl (Rcomp b.g) ∷ []
+      → AllConfigured t s → Phase h t s links
+  recovering : (b : Established) → Contains (established t) b → s.busy ≡ Some (recovery b.id) → on links mt_ctl ≡ flight.Ctl (Recov b.id) ∷ [] → on links tm_ctl ≡ []
+      → AllConfigured t s → Phase h t s links
+  recovered : (b : Established) → Contains (established t) b → s.busy ≡ Some (recovery b.id) → on links mt_ctl ≡ [] → on links tm_ctl ≡ flight.Ctl (Recovd b.id) ∷ []
       → AllConfigured t s → Phase h t s links
 
 -- ---- a bearer
 
--- what is listed of an option
-abbrev pub listed : Option ℕ → List ℕ
-listed None = []
-listed (Some c) = c ∷ []
+-- the COUNT of the PDU of a number, if it is one and has one
+abbrev pub listed : Option (Option ℕ) → List ℕ
+listed (Some (Some c)) = c ∷ []
+listed _ = []
 
 -- one bearer in one direction
 pub record IsServed (t : List Entry) (s : Nodes) (links : Links) (b : Established) (d : Dir) : Type 0 where
@@ -151,12 +192,14 @@ pub record Sound (h : Header) (policies : ℕ) (t : List Entry) (w : WorldState)
   pub claims : Each (KeepsAll h) t
   pub causes : Each (HasCause policies) t
   pub licence : Each (IsLicensed h) t
+  pub no_stall : Each NoStall t
 
 -- what flights speak of only grows
 pub record Grows (t : List Entry) (s : Nodes) (t' : List Entry) (s' : Nodes) : Type 0 where
   pub there : (b : Established) → Contains (established t) b → Contains (established t') b
   pub numbered : (b : Established) (d : Dir) → Contains (established t) b → (e : ℕ × List ℕ) → IsNumbered b.first (submitted b d t) e → IsNumbered b.first (submitted b d t') e
   pub received : (b : Established) (d : Dir) → Contains (established t) b → (c : ℕ) → Received (half b (receiver_table d s)).rx c → Received (half b (receiver_table d s')).rx c
+  pub sent : (b : Established) (d : Dir) → Contains (established t) b → (num : ℕ) (sent : Option ℕ) → IsNumberOf s b d num sent → IsNumberOf s' b d num sent
 
 -- the promise of a send
 abbrev pub PromiseOf : Header → List Entry → Nodes → LinkId × Flight → Type 0

@@ -230,7 +230,7 @@ pub data Confirmation : Type 0 where
 
 -- whether a confirmation is of this COUNT
 abbrev pub is_of : ℕ → Confirmation → Bool
-is_of count (acked c) = c == count
+is_of count (acked c) = count == c
 is_of count (reported fmc bits) = names fmc bits count
 
 -- whether one of them is
