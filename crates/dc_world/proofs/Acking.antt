@@ -1,11 +1,10 @@
 -- An ack is taken.
-use Rattle.std.proofs.Common.{ℕ, zero, suc, ◌≡◌, ◌+◌, ◌-◌, ◌<◌, ◌≤◌, ◌==◌, ◌++◌, List, [], ◌∷◌, Option, Some, None, Bool, true, false, length, slice_get, refl, sym, ap, ◌∙◌, subst, arith, inl, inr}
-use Rattle.std.specs.Prelude.{Contains, nat_lt, if◌then◌else◌, fold, remove}
+use Rattle.std.proofs.Common.{ℕ, ◌≡◌, ◌+◌, ◌-◌, ◌<◌, ◌≤◌, ◌==◌, ◌++◌, List, [], ◌∷◌, Option, Some, None, Bool, true, false, length, slice_get, refl, sym, ap, ◌∙◌, subst, arith, inl, inr}
+use Rattle.std.specs.Prelude.{Contains, nat_lt, if◌then◌else◌, fold}
 use Rattle.std.specs.List.{AllByRecursion, flat_map}
 use Rattle.std.specs.Option.{option_map}
 use Rattle.std.proofs.lemmas.List.{append-nil}
-use Rattle.std.proofs.lemmas.Option.{same_Some}
-use Rattle.std.proofs.lemmas.Bool.{cases_Bool, eqb-true, eq-eqb, cond-true}
+use Rattle.std.proofs.lemmas.Bool.{cases_Bool, eq-eqb, cond-true}
 use Rattle.std.proofs.lemmas.Bool.Decides.{nat_tests}
 use Rattle.dc_base.specs.declared.nodes.Dir.{Dir}
 use Rattle.dc_base.specs.declared.nodes.Dir.TheVariants.{Ul, Dl}
@@ -18,31 +17,29 @@ use Rattle.dc_base.specs.declared.events.Event.TheVariants.{Step}
 use Rattle.dc_base.specs.declared.events.Line.{Line}
 use Rattle.pdcp_tx.specs.Sender.{low}
 use Rattle.pdcp_tx.specs.Sending.{confirmed as without}
-use Rattle.pdcp_rx.specs.declared.entity.RxParts.{RxParts}
 use Rattle.pdcp_rx.specs.Receiver.{Received}
-use Rattle.transcript.specs.Transcript.{Entry, sends, SomeEntry}
-use Rattle.transcript.specs.Content.{mt_ctl, tm_ctl, mt_air, tm_air, given, on_link, without_taken}
+use Rattle.transcript.specs.Transcript.{Entry, sends}
+use Rattle.transcript.specs.Content.{mt_ctl, tm_ctl, mt_air, tm_air, given, on_link}
 use Rattle.transcript.specs.Bearers.{Established, established, is_same_dir, ends_command, has_after, submitted, up_of, freed_of, frees, confirmed_by, confirms, confirmed, tag_of, tags_sent}
-use Rattle.transcript.specs.Claims.{TakesData, IsDataFlight, IsProtected, IsReason, step_answer}
+use Rattle.transcript.specs.Claims.{IsDataFlight, IsProtected, IsReason, step_answer}
 use Rattle.dc_world.specs.Entities.{Entities, Table, bearer_in, with_bearer}
 use Rattle.dc_world.specs.Plane.{leg, other, air_taken, taken_for, flight_taken, confirmed_at, freed_lines}
 use Rattle.dc_world.specs.Control.{Nodes}
 use Rattle.dc_world.specs.Links.{Links, on, moved}
 use Rattle.dc_world.specs.Run.{WorldState}
-use Rattle.transcript.proofs.Establishing.{tags_sent-next, same_bearer, is_latest_once, is_generation_once}
+use Rattle.transcript.proofs.Establishing.{same_bearer, is_latest_once, is_generation_once}
 use Rattle.dc_world.proofs.Lane.{IsLane, lane_confirmed, received_below, sent_at}
 use Rattle.dc_world.proofs.Tables.{with_receiver, at_the_master}
-use Rattle.dc_world.proofs.Contents.{on_moved}
-use Rattle.dc_world.proofs.Directions.{Apart, parted, not_other, same_dir, other_dir, direction_leg, not_named}
+use Rattle.dc_world.proofs.Directions.{Apart, parted, not_other}
 use Rattle.dc_world.proofs.Tables.{Keeps, half_at, sender_put, sender_put_same, sender_put_here, sender_put_apart, sender_put_rx, keeps_all, keeps_sender}
-use Rattle.dc_world.proofs.Plain.{IsPlain, plans_same, generation_same, there_then, there_before, tabled_same, phase_same}
-use Rattle.dc_world.proofs.Served.{lane_same, under_way_left, served_next, served_still}
+use Rattle.dc_world.proofs.Plain.{IsPlain, there_then, there_before, tabled_same, phase_same}
+use Rattle.dc_world.proofs.Served.{lane_same, served_next, served_still}
 use Rattle.dc_world.proofs.Silent.{no_ups, no_frees, no_move, none_carried, none_sent_still, grows_same, IsSilent, plain_happened}
 use Rattle.transcript.specs.Bearers.{ups}
 use Rattle.transcript.specs.Claims.{HasCause}
 use Rattle.dc_world.proofs.Leaving.{flying_after, control_down, control_up}
 use Rattle.dc_world.proofs.Sound.{or_fresh}
-use Rattle.dc_world.proofs.Sound.{half, sender_table, receiver_table, IsAckOf, CarriesCount, IsUnderWay, PromiseOf, listed, IsServed, Happened, Sound}
+use Rattle.dc_world.proofs.Sound.{half, sender_table, receiver_table, IsAckOf, IsUnderWay, PromiseOf, listed, IsServed, Happened, Sound}
 
 -- ---- lines and links
 

@@ -20,7 +20,7 @@ use Rattle.dc_base.specs.declared.events.Note.TheVariants as note
 use Rattle.pdcp_tx.specs.Sender.{low}
 use Rattle.transcript.specs.Transcript.{Entry}
 use Rattle.transcript.specs.Content.{mt_ctl, tm_ctl}
-use Rattle.transcript.specs.Bearers.{open_command, unless_opening, at_master, master_key, submitted, Established, established, established_by, generation, plans, plan_drawn, is_latest, latest, is_set, at_terminal, key_in, confirms}
+use Rattle.transcript.specs.Bearers.{open_command, unless_opening, at_master, master_key, submitted, Established, established, established_by, generation, plans, plan_drawn, latest, is_set, at_terminal, key_in, confirms}
 use Rattle.transcript.specs.Claims.{is_mm, IsLicensed, HasCause}
 use Rattle.dc_world.specs.Entities.{Entities, fresh, bearer_in, with_bearer}
 use Rattle.dc_world.specs.Plane.{leg}
@@ -34,7 +34,7 @@ use Rattle.std.proofs.Common.{Bool}
 use Rattle.dc_world.proofs.Served.{served_still}
 use Rattle.dc_world.proofs.Silent.{no_ups, no_frees, no_move, none_carried, none_sent_still, grows_same, IsSilent, submitted_same, handed_same, confirmed_same, tags_same}
 use Rattle.dc_world.proofs.Bare.{IsBare, fresh_bare, bare_served}
-use Rattle.dc_world.proofs.Sound.{NoneSent, or_fresh, half, sender_table, receiver_table, IsUnderWay, IsServed, AllConfigured, Phase, idle as phase_idle, commanded as phase_commanded, answered as phase_answered, IsTabled, Happened, Sound}
+use Rattle.dc_world.proofs.Sound.{or_fresh, half, sender_table, receiver_table, IsUnderWay, IsServed, AllConfigured, Phase, idle as phase_idle, commanded as phase_commanded, answered as phase_answered, IsTabled, Happened, Sound}
 
 -- nothing is there
 is_none : {A : Type 0} (o : Option A) → is_some o ≡ false → o ≡ None

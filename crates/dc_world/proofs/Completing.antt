@@ -1,5 +1,5 @@
 -- The master takes that the terminal did.
-use Rattle.std.proofs.Common.{ℕ, ◌≡◌, ◌++◌, List, [], ◌∷◌, Some, None, true, slice_get, refl, sym, ap, ◌∙◌, subst, arith, inl, append-nil}
+use Rattle.std.proofs.Common.{ℕ, ◌≡◌, ◌++◌, List, [], ◌∷◌, Some, None, true, slice_get, refl, sym, ap, ◌∙◌, subst, append-nil}
 use Rattle.std.specs.Prelude.{Contains, if◌then◌else◌}
 use Rattle.std.specs.List.{remove}
 use Rattle.std.specs.Option.{option_map}
@@ -13,10 +13,9 @@ use Rattle.dc_base.specs.declared.events.Header.{Header}
 use Rattle.dc_base.specs.declared.events.Event.TheVariants.{Step}
 use Rattle.dc_base.specs.declared.events.Line.TheVariants as line
 use Rattle.dc_base.specs.declared.events.Note.TheVariants as note
-use Rattle.pdcp_tx.specs.Sender.{low}
 use Rattle.transcript.specs.Transcript.{Entry}
 use Rattle.transcript.specs.Content.{mt_ctl, tm_ctl, given}
-use Rattle.transcript.specs.Bearers.{Established, established, is_latest, latest, is_set, key_in, confirms, confirmed_by}
+use Rattle.transcript.specs.Bearers.{Established, established, latest, is_set, key_in, confirms, confirmed_by}
 use Rattle.transcript.specs.Claims.{HasCause, step_answer}
 use Rattle.dc_world.specs.Plane.{leg}
 use Rattle.dc_world.specs.Control.{Nodes, is_open, told_master}
@@ -27,7 +26,7 @@ use Rattle.dc_world.proofs.Contents.{on_moved}
 use Rattle.dc_world.proofs.Plain.{IsUndrawn, plans_same, established_same, generation_same, there_before}
 use Rattle.dc_world.proofs.Silent.{no_ups, no_frees, IsSilent, silent_happened}
 use Rattle.std.proofs.Common.{inr}
-use Rattle.dc_world.proofs.Sound.{half, sender_table, receiver_table, IsUnderWay, IsServed, AllConfigured, Phase, idle as phase_idle, IsTabled, Happened, Sound}
+use Rattle.dc_world.proofs.Sound.{half, sender_table, IsUnderWay, AllConfigured, Phase, idle as phase_idle, IsTabled, Happened, Sound}
 
 module _ (h : Header) (policies : ℕ) (t : List Entry) (w : WorldState) (sound : Sound h policies t w) (b : Established) (there : Contains (established t) b) where
   -- the entry

@@ -1,11 +1,11 @@
 -- A data PDU is taken, or is aged.
-use Rattle.std.proofs.Common.{ℕ, ◌≡◌, ◌+◌, ◌-◌, ◌<◌, ◌≤◌, ◌⊎◌, ◌==◌, ◌++◌, List, [], ◌∷◌, Option, Some, None, Bool, true, false, length, map, take, slice_get, refl, sym, ap, ◌∙◌, subst, arith, inl, inr}
-use Rattle.std.specs.Prelude.{Contains, Ok, nat_lt, is_some, ◌&&◌, if◌then◌else◌}
-use Rattle.std.specs.List.{AllByRecursion, flat_map, remove}
+use Rattle.std.proofs.Common.{ℕ, ◌≡◌, ◌+◌, ◌-◌, ◌<◌, ◌≤◌, ◌⊎◌, ◌==◌, ◌++◌, List, [], ◌∷◌, Option, Some, None, true, false, length, map, take, slice_get, refl, sym, ap, ◌∙◌, subst, arith, inl, inr}
+use Rattle.std.specs.Prelude.{Contains, nat_lt, ◌&&◌, if◌then◌else◌}
+use Rattle.std.specs.List.{AllByRecursion, flat_map}
 use Rattle.std.specs.Option.{option_map}
 use Rattle.std.proofs.lemmas.List.{append-nil}
 use Rattle.std.proofs.lemmas.Option.{same_Some, none-some}
-use Rattle.std.proofs.lemmas.Bool.{cases_Bool, eqb-true, eq-eqb, le-ltb, ltb-false, ltb-true, and_from, and_cases, and_parts, true≢false, cond-true, cond-false}
+use Rattle.std.proofs.lemmas.Bool.{eq-eqb, ltb-false, ltb-true, and_from, cond-true, cond-false}
 use Rattle.dc_base.specs.Count.{window, sn, count_for}
 use Rattle.dc_base.specs.declared.nodes.Dir.{Dir}
 use Rattle.dc_base.specs.declared.nodes.Dir.TheVariants.{Ul, Dl}
@@ -24,8 +24,8 @@ use Rattle.pdcp_rx.specs.Receiver.{put, handed_of, Received}
 use Rattle.pdcp_rx.proofs.Laws.{Received-put, Received-put_same, handed_consecutive}
 use Rattle.pdcp_tx.specs.Sender.{Sender, low}
 use Rattle.transcript.specs.Transcript.{Entry, sends, SomeEntry}
-use Rattle.transcript.specs.Content.{mt_ctl, tm_ctl, given, without_taken, put_on, on_link, reverse, direction}
-use Rattle.transcript.specs.Bearers.{Established, established, latest, is_latest, submission, submitted, ups, handed, numbered, confirmed, confirms, confirmed_by, tag_of, tags_sent, frees, is_same_dir, open_command, is_set}
+use Rattle.transcript.specs.Content.{mt_ctl, tm_ctl, given, put_on, on_link, reverse, direction}
+use Rattle.transcript.specs.Bearers.{Established, established, latest, submitted, ups, handed, numbered, confirmed, confirms, confirmed_by, tag_of, tags_sent, frees, is_same_dir}
 use Rattle.transcript.specs.Claims.{TakesData, IsDataFlight, IsProtected, Carried, IsReason, receiver, due_answer, step_answer, is_behind as is_behind_in, is_aged as is_aged_in}
 use Rattle.transcript.proofs.OnEach.{each_weaker}
 use Rattle.transcript.proofs.Growing.{SomeEntry-later, SomeEntry-last}
@@ -37,7 +37,7 @@ use Rattle.dc_world.specs.Run.{WorldState}
 use Rattle.transcript.proofs.Establishing.{submitted-next, handed-next, confirmed-next, tags_sent-next, same_bearer, is_latest_once, is_generation_once}
 use Rattle.dc_world.proofs.Lane.{IsNumbered, IsLane, numbered_below, Received-only, put_below, found_by_sn, lane_put, lane_handed}
 use Rattle.dc_world.proofs.Sound.{half, or_fresh, sender_table, receiver_table, CarriesCount, IsUnderWay, IsPduOf, IsAckOf, PromiseOf, Phase, idle, commanded, answered, listed, IsServed, IsTabled, Happened, Sound}
-use Rattle.dc_world.proofs.Tables.{with_receiver, length-with_bearer, bearer_in-other, at_the_master, is_the_bearer, deliv_is}
+use Rattle.dc_world.proofs.Tables.{with_receiver, at_the_master, is_the_bearer, deliv_is}
 use Rattle.dc_world.proofs.Directions.{Apart, parted, same_dir, direction_leg, not_apart, not_named}
 use Rattle.dc_world.proofs.Tables.{Keeps, receiver_put, receiver_put_same, receiver_put_here, receiver_put_apart, keeps_all, keeps_receiver}
 use Rattle.dc_world.proofs.Plain.{IsPlain, there_then, there_before, tabled_same, phase_same}
@@ -45,7 +45,6 @@ use Rattle.dc_world.proofs.Served.{lane_same, served_still}
 use Rattle.dc_world.proofs.Silent.{no_ups, no_frees, no_move, none_carried, none_sent_still, grows_next, IsSilent, plain_happened}
 use Rattle.dc_world.proofs.Leaving.{flying_after, control_down, control_up}
 use Rattle.dc_world.proofs.Upwards.{sends_after_ups, ups_here, ups_elsewhere, frees_after_ups, has_after_ups, command_after_ups}
-use Rattle.dc_world.proofs.Contents.{on_moved}
 use Rattle.dc_world.proofs.Taking.{taken_data, is_data_flight}
 
 -- ---- the receiver

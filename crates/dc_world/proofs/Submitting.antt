@@ -1,7 +1,7 @@
 -- A payload is submitted and taken.
 use Rattle.std.proofs.Common.{ℕ, zero, suc, ◌≡◌, ◌+◌, ◌-◌, ◌^◌, ◌<◌, ◌≤◌, ◌⊎◌, ◌==◌, ◌++◌, List, [], ◌∷◌, Some, None, true, false, length, slice_get, refl, sym, ap, ◌∙◌, subst, arith, inl, inr}
-use Rattle.std.specs.Prelude.{Contains, Ok, nat_le, nat_lt, if◌then◌else◌}
-use Rattle.std.specs.List.{AllByRecursion, flat_map}
+use Rattle.std.specs.Prelude.{Contains, Ok, nat_le, if◌then◌else◌}
+use Rattle.std.specs.List.{flat_map}
 use Rattle.std.proofs.lemmas.List.{append-nil, length_push}
 use Rattle.std.proofs.lemmas.List.FromFn.{length-range_with_len}
 use Rattle.std.proofs.lemmas.Option.{none-some}
@@ -20,12 +20,11 @@ use Rattle.pdcp_pdu.specs.DataPdu.{IsPayload, data_pdu}
 use Rattle.pdcp_tx.specs.Sender.{Sender, least, low}
 use Rattle.pdcp_tx.specs.Sender.{Entry as Kept}
 use Rattle.pdcp_tx.specs.Sending.{taken}
-use Rattle.pdcp_rx.specs.declared.entity.RxParts.{RxParts}
 use Rattle.pdcp_rx.specs.Receiver.{Received}
-use Rattle.transcript.specs.Transcript.{Entry, sends, SomeEntry}
-use Rattle.transcript.specs.Content.{mt_ctl, tm_ctl, put_on, direction, is_same_link}
+use Rattle.transcript.specs.Transcript.{Entry, sends}
+use Rattle.transcript.specs.Content.{mt_ctl, tm_ctl, put_on, is_same_link}
 use Rattle.transcript.specs.Bearers.{Established, established, latest, generation, is_same_dir, submission, submitted, confirms, confirmed, tag_of, told, open_command, at_submitter, unless_opening, master_key, key_in}
-use Rattle.transcript.specs.Claims.{TakesData, Protects, ProtectsSubmission, IsLicensed, submit_answer}
+use Rattle.transcript.specs.Claims.{Protects, ProtectsSubmission, IsLicensed, submit_answer}
 use Rattle.dc_world.specs.Entities.{Entities, bearer_in, with_bearer}
 use Rattle.dc_world.specs.Plane.{leg, other, ciphered, data_flight}
 use Rattle.dc_world.specs.Control.{Nodes}
@@ -37,11 +36,11 @@ use Rattle.dc_world.proofs.Lane.{IsLane, low_is, lane_taken}
 use Rattle.dc_world.proofs.Taking.{is_data_flight}
 use Rattle.dc_world.proofs.Tables.{with_sender, is_established}
 use Rattle.dc_world.proofs.Contents.{on_moved}
-use Rattle.dc_world.proofs.Directions.{Apart, parted, same_dir, other_dir, direction_leg, not_named}
-use Rattle.dc_world.proofs.Tables.{Keeps, half_at, sender_put, sender_put_same, sender_put_here, sender_put_apart, sender_put_rx, keeps_all, keeps_sender}
+use Rattle.dc_world.proofs.Directions.{Apart, parted, same_dir, other_dir, direction_leg}
+use Rattle.dc_world.proofs.Tables.{Keeps, half_at, sender_put_here, sender_put_apart, sender_put_rx, keeps_sender}
 use Rattle.dc_world.proofs.Plain.{IsPlain, plans_same, generation_same, there_then, there_before, tabled_same, phase_same}
 use Rattle.dc_world.proofs.Served.{lane_same, under_way_left, served_next, served_still}
-use Rattle.dc_world.proofs.Silent.{no_ups, no_frees, no_move, none_carried, none_sent_still, grows_same, IsSilent, plain_happened}
+use Rattle.dc_world.proofs.Silent.{no_ups, no_frees, no_move, none_carried, grows_same}
 use Rattle.dc_world.proofs.Sound.{half, sender_table, receiver_table, IsPduOf, IsUnderWay, PromiseOf, Phase, listed, IsServed, NoneSent, Happened, Sound}
 
 -- ---- the sending entity
