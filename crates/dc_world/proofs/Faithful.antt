@@ -42,13 +42,11 @@ use Rattle.transcript.specs.Claims.{is_mm, is_ordered, is_tunnel, bearer_answer,
 use Rattle.transcript.proofs.OnEach.{each_at}
 use Rattle.transcript.proofs.Establishing.{IsOnce, same_bearer, generation_there}
 use Rattle.dc_world.specs.Entities.{Entities, Table, bearer_in, with_bearer}
-use Rattle.dc_world.specs.Plane.{Outcome, leg, other, numbered_as, air_taken, is_aged}
-use Rattle.dc_world.specs.Plane.{submitted as submitted_in}
+use Rattle.dc_world.specs.Plane.{Outcome, leg, other, numbered_as, air_taken, is_aged, submitted as submitted_in}
 use Rattle.dc_world.specs.Control.{Nodes, new_nodes, set_up, commanded, told_terminal, told_master, is_open}
 use Rattle.dc_world.specs.Links.{on, moved, first_nonempty}
 use Rattle.dc_world.specs.Run.{WorldState, new_world, IsGood, is_built, unless_open, table_at, taken_from, stepped, tunnelled, tunnelled_at, decided, happen, entry_of, world_after, entries_from}
-use Rattle.dc_world.proofs.Sound.{or_fresh, half, sender_table, receiver_table, IsPduOf, IsAckOf, Promise, Phase, idle, Happened, Sound}
-use Rattle.dc_world.proofs.Sound.{commanded as phase_commanded, answered as phase_answered}
+use Rattle.dc_world.proofs.Sound.{or_fresh, half, sender_table, receiver_table, IsPduOf, IsAckOf, Promise, Phase, idle, Happened, Sound, commanded as phase_commanded, answered as phase_answered}
 use Rattle.dc_world.proofs.Tables.{with_sender, with_receiver, is_established}
 use Rattle.dc_world.proofs.Assembly.{sound_next, served_told}
 use Rattle.dc_world.proofs.Refusing.{refused_happened}

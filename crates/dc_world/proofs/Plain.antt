@@ -70,6 +70,11 @@ module _ (t : List Entry) (e : Entry) (plain : IsPlain e) where
 
 -- ---- with nodes that keep their bearers
 
+-- a place with no bearer has no entities
+pub none_mapped : (x : Option Entities) → option_map (λ e. e.bearer) x ≡ None → x ≡ None
+none_mapped None is = refl
+none_mapped (Some x) is = absurd cc
+
 module _ (t : List Entry) (e : Entry) (plain : IsPlain e) (s s' : Nodes) (keeps : Keeps s s') where
   -- one is there where the other is
   some_mapped : (o p : Option Entities) → option_map (λ e. e.bearer) p ≡ option_map (λ e. e.bearer) o → is_some o ≡ is_some p
@@ -92,11 +97,6 @@ module _ (t : List Entry) (e : Entry) (plain : IsPlain e) (s s' : Nodes) (keeps 
     ranged = λ b there. was.ranged b (there_before t e plain.undrawn b there);
     keyed = λ b there. ap (key_in b.g b.id) (plans_same t e plain.undrawn) ∙ was.keyed b (there_before t e plain.undrawn b there);
   }
-
-  -- an identity with no bearer has no entities
-  none_mapped : (x : Option Entities) → option_map (λ e. e.bearer) x ≡ None → x ≡ None
-  none_mapped None is = refl
-  none_mapped (Some x) is = absurd (cc)
 
   -- a bearer that the terminal lacks then was lacking
   none_before : (k : ℕ) → bearer_in s'.terminal k ≡ None → bearer_in s.terminal k ≡ None

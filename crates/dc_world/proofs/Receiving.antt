@@ -37,12 +37,12 @@ use Rattle.dc_world.specs.Run.{WorldState}
 use Rattle.transcript.proofs.Establishing.{submitted-next, handed-next, confirmed-next, tags_sent-next, same_bearer, is_latest_once, is_generation_once}
 use Rattle.dc_world.proofs.Lane.{IsNumbered, IsLane, numbered_below, Received-only, put_below, found_by_sn, lane_put, lane_handed}
 use Rattle.dc_world.proofs.Sound.{half, or_fresh, sender_table, receiver_table, CarriesCount, IsUnderWay, IsPduOf, IsAckOf, PromiseOf, Phase, idle, commanded, answered, listed, IsServed, IsTabled, Happened, Sound}
-use Rattle.dc_world.proofs.Tables.{with_receiver, at_the_master, is_the_bearer, deliv_is}
-use Rattle.dc_world.proofs.Directions.{Apart, parted, same_dir, direction_leg, not_apart, not_named}
-use Rattle.dc_world.proofs.Tables.{Keeps, receiver_put, receiver_put_same, receiver_put_here, receiver_put_apart, keeps_all, keeps_receiver}
+use Rattle.dc_world.proofs.Tables.{with_receiver, at_the_master, is_the_bearer, deliv_is, Keeps, receiver_put, receiver_put_same, receiver_put_here, receiver_put_apart, keeps_all, keeps_receiver}
+use Rattle.dc_world.proofs.Directions.{each_bearer, Apart, parted, same_dir, direction_leg, not_apart, not_named}
 use Rattle.dc_world.proofs.Plain.{IsPlain, there_then, there_before, tabled_same, phase_same}
 use Rattle.dc_world.proofs.Served.{lane_same, served_still}
 use Rattle.dc_world.proofs.Silent.{no_ups, no_frees, no_move, none_carried, none_sent_still, grows_next, IsSilent, plain_happened}
+use Rattle.dc_world.proofs.Contents.{step_given, step_due}
 use Rattle.dc_world.proofs.Leaving.{flying_after, control_down, control_up}
 use Rattle.dc_world.proofs.Upwards.{sends_after_ups, ups_here, ups_elsewhere, frees_after_ups, has_after_ups, command_after_ups}
 use Rattle.dc_world.proofs.Taking.{taken_data, is_data_flight}
@@ -130,12 +130,12 @@ module _ (h : Header) (policies : ℕ) (t : List Entry) (w : WorldState) (sound 
 
   -- a step that is answered ok gives it
   given_is : (lines : List Line) → given t (record { event = Step (leg d) i; answer = answer.Ok; lines = lines }) ≡ Some (leg d, f)
-  given_is lines = ap (λ fs. option_map (λ f. (leg d, f)) (slice_get fs i)) (sound.contents (leg d)) ∙ ap (option_map (λ f. (leg d, f))) at
+  given_is = step_given t w.links sound.contents (leg d) i f at
 
   -- the answer that is due
   due_is : due_answer policies t (Step (leg d) i) ≡ (if nat_lt (c + window b.n) r.rx.deliv then answer.No Aged else answer.Ok)
   due_is =
-      ap (λ fs. step_answer t (leg d) i (slice_get fs i)) (sound.contents (leg d)) ∙ ap (step_answer t (leg d) i) at
+      step_due t w.links sound.contents (leg d) i f at
       ∙ unordered d ∙ ap (λ x. if x then answer.No Aged else answer.Ok) aged_claim
     where
       unordered : (k : Dir) → step_answer t (leg k) i (Some f) ≡ (if is_aged_in t (leg k, f) then answer.No Aged else answer.Ok)
@@ -386,11 +386,7 @@ module _ (h : Header) (policies : ℕ) (t : List Entry) (w : WorldState) (sound 
   -- what holds of the bearer in its direction, and of every other, holds of all
   all_from : (P : Established → Dir → Type 0) → P b d → ((x : Established) (k : Dir) → Contains (established t) x → Apart d b.id k x.id → P x k)
       → (x : Established) (k : Dir) → Contains (established t) x → P x k
-  all_from P here elsewhere x k in_t =
-      elim (parted d b.id k x.id) [
-        | inl it ↦ subst (λ y. P y k) (same_bearer (established t) b x sound.tables.once there in_t (sym it.1)) (subst (P b) (sym it.0) here)
-        | inr apart ↦ elsewhere x k in_t apart
-      ]
+  all_from = each_bearer (established t) sound.tables.once b there d b.id refl
 
   -- each payload that goes up came
   run_came : AllByRecursion (λ u. SomeEntry (TakesData b d u.0) t') run

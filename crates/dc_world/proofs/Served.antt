@@ -1,7 +1,7 @@
 -- A bearer that is served is so after an entry; and what is under way.
 use Rattle.std.proofs.Common.{ℕ, zero, suc, ◌≡◌, ◌-◌, ◌<◌, ◌≤◌, ◌⊎◌, ◌++◌, List, [], ◌∷◌, Some, take, slice_get, refl, sym, ap, ◌∙◌, subst, arith, inl, inr}
 use Rattle.std.specs.List.{flat_map, remove}
-use Rattle.std.proofs.lemmas.List.{append-nil}
+use Rattle.std.proofs.lemmas.List.{append-nil, take-append-le}
 use Rattle.std.proofs.lemmas.Option.{same_Some}
 use Rattle.dc_base.specs.declared.numbers.SnLen.{SnLen}
 use Rattle.dc_base.specs.declared.nodes.Dir.{Dir}
@@ -19,7 +19,6 @@ use Rattle.dc_world.specs.Links.{Links, on}
 use Rattle.transcript.proofs.Establishing.{submitted-next, handed-next, confirmed-next, tags_sent-next}
 use Rattle.dc_world.proofs.Lane.{IsLane}
 use Rattle.dc_world.proofs.Sound.{half, sender_table, receiver_table, CarriesCount, IsUnderWay, listed, IsServed}
-use Rattle.std.proofs.lemmas.List.{take-append-le}
 
 -- ---- what is under way
 

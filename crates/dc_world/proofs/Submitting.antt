@@ -17,8 +17,7 @@ use Rattle.dc_base.specs.declared.events.Header.{Header}
 use Rattle.dc_base.specs.declared.events.Event.TheVariants.{Submit}
 use Rattle.dc_base.specs.declared.events.Line.TheVariants as line
 use Rattle.pdcp_pdu.specs.DataPdu.{IsPayload, data_pdu}
-use Rattle.pdcp_tx.specs.Sender.{Sender, least, low}
-use Rattle.pdcp_tx.specs.Sender.{Entry as Kept}
+use Rattle.pdcp_tx.specs.Sender.{Sender, least, low, Entry as Kept}
 use Rattle.pdcp_tx.specs.Sending.{taken}
 use Rattle.pdcp_rx.specs.Receiver.{Received}
 use Rattle.transcript.specs.Transcript.{Entry, sends}
@@ -34,10 +33,9 @@ use Rattle.transcript.proofs.Establishing.{submitted-next, tags_sent-next, same_
 use Rattle.dc_world.proofs.Lists.{slice_get_last}
 use Rattle.dc_world.proofs.Lane.{IsLane, low_is, lane_taken}
 use Rattle.dc_world.proofs.Taking.{is_data_flight}
-use Rattle.dc_world.proofs.Tables.{with_sender, is_established}
+use Rattle.dc_world.proofs.Tables.{with_sender, is_established, Keeps, half_at, sender_put_here, sender_put_apart, sender_put_rx, keeps_sender}
 use Rattle.dc_world.proofs.Contents.{on_moved}
-use Rattle.dc_world.proofs.Directions.{Apart, parted, same_dir, other_dir, direction_leg}
-use Rattle.dc_world.proofs.Tables.{Keeps, half_at, sender_put_here, sender_put_apart, sender_put_rx, keeps_sender}
+use Rattle.dc_world.proofs.Directions.{each_bearer, Apart, parted, same_dir, other_dir, direction_leg}
 use Rattle.dc_world.proofs.Plain.{IsPlain, plans_same, generation_same, there_then, there_before, tabled_same, phase_same}
 use Rattle.dc_world.proofs.Served.{lane_same, under_way_left, served_next, served_still}
 use Rattle.dc_world.proofs.Silent.{no_ups, no_frees, no_move, none_carried, grows_same}
@@ -291,17 +289,11 @@ module _ (h : Header) (policies : ℕ) (t : List Entry) (w : WorldState) (sound 
 
     -- so is every other
     served_all : (b' : Established) (d' : Dir) → Contains (established t) b' → IsServed (t ++ entry ∷ []) after links' b' d'
-    served_all b' d' at' =
-        elim (parted d id d' b'.id) [
-          | inl same ↦
-              subst (λ k. IsServed (t ++ entry ∷ []) after links' b' k) (sym same.0)
-              (subst (λ x. IsServed (t ++ entry ∷ []) after links' x d) (sym (the_bearer b' at' same.1)) served_here)
-          | inr apart ↦
-              let same : half b' (sender_table d' after) ≡ half b' (sender_table d' w.nodes) = sender_put_apart d w.nodes id e' b' d' apart in
-              served_still t w.nodes w.links b' d' entry after links' (sound.served b' d' at') (no_ups b' d' t entry refl) (rx_still b' d')
-              (submission_apart b' d' apart) (nothing_confirmed b' d') (λ num. tag_apart b' d' num apart)
-              (ap (λ (x : Entities). x.tx) same) (ap (λ (x : Entities). x.sent) same) (λ k way. inr (flying b' d' k way))
-        ]
+    served_all = each_bearer (established t) sound.tables.once b here d id named (λ x k. IsServed (t ++ entry ∷ []) after links' x k) served_here (λ b' d' at' apart.
+        let same : half b' (sender_table d' after) ≡ half b' (sender_table d' w.nodes) = sender_put_apart d w.nodes id e' b' d' apart in
+        served_still t w.nodes w.links b' d' entry after links' (sound.served b' d' at') (no_ups b' d' t entry refl) (rx_still b' d')
+        (submission_apart b' d' apart) (nothing_confirmed b' d') (λ num. tag_apart b' d' num apart)
+        (ap (λ (x : Entities). x.tx) same) (ap (λ (x : Entities). x.sent) same) (λ k way. inr (flying b' d' k way)))
 
     -- ---- the PDU
 
@@ -360,15 +352,9 @@ module _ (h : Header) (policies : ℕ) (t : List Entry) (w : WorldState) (sound 
 
     -- Low stays
     low_still : (b' : Established) (d' : Dir) → Contains (established t) b' → low (half b' (sender_table d' after)).tx ≡ low (half b' (sender_table d' w.nodes)).tx
-    low_still b' d' at' =
-        elim (parted d id d' b'.id) [
-          | inl same ↦
-              let here' : low (half b (sender_table d after)).tx ≡ low (half b (sender_table d w.nodes)).tx =
-              ap (λ (x : Entities). low x.tx) half_after ∙ (has_room e.tx tx payload c ok).still ∙ sym (ap (λ (x : Entities). low x.tx) half_before) in
-              subst (λ k. low (half b' (sender_table k after)).tx ≡ low (half b' (sender_table k w.nodes)).tx) (sym same.0)
-              (subst (λ x. low (half x (sender_table d after)).tx ≡ low (half x (sender_table d w.nodes)).tx) (sym (the_bearer b' at' same.1)) here')
-          | inr apart ↦ ap (λ (x : Entities). low x.tx) (sender_put_apart d w.nodes id e' b' d' apart)
-        ]
+    low_still = each_bearer (established t) sound.tables.once b here d id named (λ x k. low (half x (sender_table k after)).tx ≡ low (half x (sender_table k w.nodes)).tx)
+        (ap (λ (x : Entities). low x.tx) half_after ∙ (has_room e.tx tx payload c ok).still ∙ sym (ap (λ (x : Entities). low x.tx) half_before))
+        (λ b' d' at' apart. ap (λ (x : Entities). low x.tx) (sender_put_apart d w.nodes id e' b' d' apart))
 
     -- there was room, and a COUNT was left
     due : submit_answer d t (Some b) ≡ answer.Ok
