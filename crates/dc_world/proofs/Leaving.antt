@@ -1,5 +1,5 @@
--- The links after a flight on the leg of a direction is taken away.
-use Rattle.std.proofs.Common.{ℕ, ◌≡◌, ◌⊎◌, ◌++◌, List, [], Some, length, slice_get, refl, sym, ap, ◌∙◌, subst, inl, inr}
+-- The links after a flight on the leg of a direction is sent, or taken away.
+use Rattle.std.proofs.Common.{◌∷◌, ℕ, ◌≡◌, ◌⊎◌, ◌++◌, List, [], Some, length, slice_get, refl, sym, ap, ◌∙◌, subst, inl, inr}
 use Rattle.std.specs.List.{remove}
 use Rattle.std.proofs.lemmas.List.{append-nil}
 use Rattle.dc_base.specs.declared.nodes.Dir.{Dir}
@@ -15,6 +15,17 @@ use Rattle.dc_world.proofs.Sound.{CarriesCount, IsUnderWay}
 use Rattle.dc_world.proofs.Contents.{on_moved}
 use Rattle.dc_world.proofs.Directions.{cases_dir}
 use Rattle.dc_world.proofs.Served.{under_way_left, under_way_but}
+use Rattle.dc_base.specs.declared.events.Line.TheVariants as line
+
+-- what is sent on a leg is no command
+pub no_command : (d : Dir) (f : Flight) → put_on mt_ctl (line.Send (leg d) f ∷ []) ≡ []
+no_command Dl f = refl
+no_command Ul f = refl
+
+-- and answers none
+pub no_completion : (d : Dir) (f : Flight) → put_on tm_ctl (line.Send (leg d) f ∷ []) ≡ []
+no_completion Dl f = refl
+no_completion Ul f = refl
 
 module _ (links : Links) (long : length links ≡ 64) (d : Dir) (i : ℕ) (f : Flight) (at : slice_get (on links (leg d)) i ≡ Some f) (lines : List Line) where
   -- what stands on a link then

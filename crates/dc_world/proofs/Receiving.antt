@@ -43,47 +43,11 @@ use Rattle.dc_world.proofs.Plain.{IsPlain, there_then, there_before, tabled_same
 use Rattle.dc_world.proofs.Served.{lane_same, served_still}
 use Rattle.dc_world.proofs.Silent.{no_ups, no_frees, no_move, none_carried, none_sent_still, grows_next, IsSilent, plain_happened}
 use Rattle.dc_world.proofs.Contents.{step_given, step_due}
-use Rattle.dc_world.proofs.Leaving.{flying_after, control_down, control_up}
+use Rattle.dc_world.proofs.Leaving.{no_command, no_completion, flying_after, control_down, control_up}
 use Rattle.dc_world.proofs.Upwards.{sends_after_ups, ups_here, ups_elsewhere, frees_after_ups, has_after_ups, command_after_ups}
 use Rattle.dc_world.proofs.Taking.{taken_data, is_data_flight}
-
--- ---- the receiver
-
--- no bearer of a submission is missing at the terminal
-not_missing : (h : Header) (t : List Entry) (s : Nodes) (links : Links) → Phase h t s links
-    → (d : Dir) (b : Established) → Contains (established t) b → (e : ℕ × List ℕ) → IsNumbered b.first (submitted b d t) e → bearer_in s.terminal b.id ≡ None → ⊥
-not_missing h t s links phase d b there e sub none =
-    elim phase [
-      | idle free no_down no_up all ↦ all b there none
-      | commanded x in_t shape threshold policy open' plan no_up unused absent only ↦
-          let same : b ≡ x = only b there none in
-          let empty : submitted b d t ≡ [] = subst (λ y. submitted y d t ≡ []) (sym same) (unused d) in
-          none-some e.1 (ap (λ xs. slice_get xs (e.0 - b.first)) (sym empty) ∙ sub.payload)
-      | answered x in_t open' no_down done all ↦ all b there none
-    ]
-
--- the receiver of a submitted PDU has its bearer
-receiver_has : (h : Header) (t : List Entry) (s : Nodes) (links : Links) → IsTabled t s → Phase h t s links
-    → (d : Dir) (b : Established) → Contains (established t) b → (e : ℕ × List ℕ) → IsNumbered b.first (submitted b d t) e
-    → (r : Entities) × (bearer_in (receiver_table d s) b.id ≡ Some r) × (r.bearer ≡ b)
-receiver_has h t s links tables phase Ul b there e sub = at_the_master t s tables b there
-receiver_has h t s links tables phase Dl b there e sub = found (bearer_in s.terminal b.id) refl
-  where
-    found : (o : Option Entities) → bearer_in s.terminal b.id ≡ o → (r : Entities) × (bearer_in s.terminal b.id ≡ Some r) × (r.bearer ≡ b)
-    found None is = absurd (not_missing h t s links phase Dl b there e sub is)
-    found (Some r) is = (r, is, is_the_bearer t s tables Ul b r there is)
-
--- ---- lists
-
--- consecutive COUNTs are not below the first
-consecutive_from : (a c : ℕ) (es : List (ℕ × List ℕ)) → a ≤ c → IsConsecutive c es → AllByRecursion (λ u. a ≤ u.0) es
-consecutive_from a c [] le run = tt
-consecutive_from a c (e ∷ es) le run = (omega (arith, run.0), consecutive_from a (c + 1) es (omega arith) run.1)
-
--- two facts of each element are one
-each_both : {X : Type 0} (P Q : X → Type 0) (xs : List X) → AllByRecursion P xs → AllByRecursion Q xs → AllByRecursion (λ x. P x × Q x) xs
-each_both P Q [] all more = tt
-each_both P Q (x ∷ xs) all more = ((all.0, more.0), each_both P Q xs all.1 more.1)
+use Rattle.dc_world.proofs.Lists.{consecutive_from, each_both}
+use Rattle.dc_world.proofs.Having.{receiver_has}
 
 -- ---- one flight of a submission
 
@@ -303,19 +267,11 @@ module _ (h : Header) (policies : ℕ) (t : List Entry) (w : WorldState) (sound 
 
   -- nothing is put on the control link to the terminal
   no_control_down : put_on mt_ctl lines ≡ []
-  no_control_down = ap (λ ss. flat_map (on_link mt_ctl) ss) sends_are ∙ apart d
-    where
-      apart : (k : Dir) → flat_map (on_link mt_ctl) ((leg (other k), flight.Ack b.id b.g num) ∷ []) ≡ []
-      apart Ul = refl
-      apart Dl = refl
+  no_control_down = ap (λ ss. flat_map (on_link mt_ctl) ss) sends_are ∙ no_command (other d) (flight.Ack b.id b.g num)
 
   -- nor on that to the master
   no_control_up : put_on tm_ctl lines ≡ []
-  no_control_up = ap (λ ss. flat_map (on_link tm_ctl) ss) sends_are ∙ apart d
-    where
-      apart : (k : Dir) → flat_map (on_link tm_ctl) ((leg (other k), flight.Ack b.id b.g num) ∷ []) ≡ []
-      apart Ul = refl
-      apart Dl = refl
+  no_control_up = ap (λ ss. flat_map (on_link tm_ctl) ss) sends_are ∙ no_completion (other d) (flight.Ack b.id b.g num)
 
   -- ---- its bearer
 

@@ -40,39 +40,8 @@ use Rattle.dc_world.proofs.Plain.{IsPlain, plans_same, generation_same, there_th
 use Rattle.dc_world.proofs.Served.{lane_same, under_way_left, served_next, served_still}
 use Rattle.dc_world.proofs.Silent.{no_ups, no_frees, no_move, none_carried, grows_same}
 use Rattle.dc_world.proofs.Sound.{half, sender_table, receiver_table, IsPduOf, IsUnderWay, PromiseOf, Phase, listed, IsServed, NoneSent, Happened, Sound}
-
--- ---- the sending entity
-
--- Low stays where one more is kept, under the next COUNT
-least_push : (next : ℕ) (p : List ℕ) (es : List Kept) → least (next + 1) (es ++ (next, p) ∷ []) ≡ least next es
-least_push next p [] = omega arith
-least_push next p (x ∷ es) = let rest = least_push next p es in omega arith
-
--- why a submission is taken, and that Low stays
-record HasRoom (s after : Sender) : Type 0 where
-  room : s.next < low s + window s.n
-  left : s.next ≡ 2 ^ 32 - 1 → ⊥
-  still : low after ≡ low s
-
--- a submission that is taken had room
-has_room : (s after : Sender) (p : List ℕ) (c : ℕ) → taken s p ≡ Ok (after, c) → HasRoom s after
-has_room s after p c ok =
-    elim (cases_Bool (nat_le (low s + window s.n) s.next)) [
-      | inl full ↦ let f = rw full at ok in absurd (cc (f))
-      | inr room ↦
-          let f = rw room at ok in
-          elim (cases_Bool (s.next == 2 ^ 32 - 1)) [
-            | inl last ↦ let g = rw last at f in absurd (cc (g))
-            | inr left ↦
-                let g = rw left at f in
-                let is : ◌≡◌ {A = Sender × ℕ} (record s { next = s.next + 1; kept = s.kept ++ (s.next, p) ∷ [] }, s.next) (after, c) = cc (g) in
-                record {
-                  room = leb-false _ _ room;
-                  left = eqb-false _ _ left;
-                  still = ap low (sym (ap (λ (q : Sender × ℕ). q.0) is)) ∙ least_push s.next p s.kept;
-                }
-          ]
-    ]
+use Rattle.dc_world.proofs.Leaving.{no_command, no_completion}
+use Rattle.dc_world.proofs.Room.{has_room}
 
 -- the PDU of a number, where one more was sent
 listed_push : (xs : List ℕ) (c num : ℕ) → listed (slice_get xs num) ++ (if length xs == num then c ∷ [] else []) ≡ listed (slice_get (xs ++ c ∷ []) num)
@@ -82,16 +51,6 @@ listed_push (x ∷ xs) c zero = grind (arith, nat_tests)
 listed_push (x ∷ xs) c (suc num) = grind (arith, nat_tests, listed_push xs c num)
 
 -- ---- links and directions
-
--- the PDU is no command
-no_command : (d : Dir) (f : Flight) → put_on mt_ctl (line.Send (leg d) f ∷ []) ≡ []
-no_command Dl f = refl
-no_command Ul f = refl
-
--- and answers none
-no_completion : (d : Dir) (f : Flight) → put_on tm_ctl (line.Send (leg d) f ∷ []) ≡ []
-no_completion Dl f = refl
-no_completion Ul f = refl
 
 -- it stands on the leg of its direction
 own_leg : (d : Dir) (f : Flight) → put_on (leg d) (line.Send (leg d) f ∷ []) ≡ f ∷ []
