@@ -22,7 +22,7 @@ use Rattle.transcript.specs.Transcript.{Entry}
 use Rattle.transcript.specs.Content.{mt_ctl, tm_ctl}
 use Rattle.transcript.specs.Bearers.{open_command, unless_opening, at_master, master_key, submitted, Established, established, established_by, generation, plans, plan_drawn, latest, is_set, at_terminal, key_in, confirms}
 use Rattle.transcript.specs.Claims.{is_mm, IsLicensed, HasCause}
-use Rattle.dc_world.specs.Entities.{Entities, fresh, bearer_in, with_bearer}
+use Rattle.dc_world.specs.Entities.{fresh, bearer_in, with_bearer}
 use Rattle.dc_world.specs.Plane.{leg}
 use Rattle.dc_world.specs.Control.{Nodes, opened, plan_for}
 use Rattle.dc_world.specs.Links.{Links, on, moved}

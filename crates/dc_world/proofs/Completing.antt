@@ -2,7 +2,6 @@
 use Rattle.std.proofs.Common.{ℕ, ◌≡◌, ◌++◌, List, [], ◌∷◌, Some, None, true, slice_get, refl, sym, ap, ◌∙◌, subst, append-nil, inr}
 use Rattle.std.specs.Prelude.{Contains, if◌then◌else◌}
 use Rattle.std.specs.List.{remove}
-use Rattle.std.specs.Option.{option_map}
 use Rattle.std.proofs.lemmas.Bool.{cond-true, eq-eqb}
 use Rattle.dc_base.specs.declared.nodes.Dir.{Dir}
 use Rattle.dc_base.specs.declared.nodes.Dir.TheVariants.{Ul, Dl}
@@ -16,7 +15,7 @@ use Rattle.dc_base.specs.declared.events.Note.TheVariants as note
 use Rattle.transcript.specs.Transcript.{Entry}
 use Rattle.transcript.specs.Content.{mt_ctl, tm_ctl, given}
 use Rattle.transcript.specs.Bearers.{Established, established, latest, is_set, key_in, confirms, confirmed_by}
-use Rattle.transcript.specs.Claims.{HasCause, step_answer}
+use Rattle.transcript.specs.Claims.{HasCause}
 use Rattle.dc_world.specs.Plane.{leg}
 use Rattle.dc_world.specs.Control.{Nodes, is_open, told_master}
 use Rattle.dc_world.specs.Links.{Links, on, moved}

@@ -19,7 +19,7 @@ use Rattle.pdcp_tx.specs.Sender.{low}
 use Rattle.transcript.specs.Transcript.{Entry}
 use Rattle.transcript.specs.Content.{mt_ctl, tm_ctl, given}
 use Rattle.transcript.specs.Bearers.{submitted, handed, confirmed, tags_sent, Established, established, latest, is_set, at_terminal, key_in, confirms, confirmed_by}
-use Rattle.transcript.specs.Claims.{IsLicensed, HasCause, step_answer}
+use Rattle.transcript.specs.Claims.{IsLicensed, HasCause}
 use Rattle.dc_world.specs.Entities.{fresh, bearer_in, with_bearer}
 use Rattle.dc_world.specs.Plane.{leg}
 use Rattle.dc_world.specs.Control.{Nodes, plan_for}

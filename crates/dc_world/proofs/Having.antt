@@ -1,43 +1,18 @@
 -- The receiver of a submitted PDU has its bearer.
-use Rattle.std.proofs.Common.{ℕ, ◌≡◌, ◌+◌, ◌-◌, ◌<◌, ◌≤◌, ◌⊎◌, ◌==◌, ◌++◌, List, [], ◌∷◌, Option, Some, None, true, false, length, map, take, slice_get, refl, sym, ap, ◌∙◌, subst, arith, inl, inr}
-use Rattle.std.specs.Prelude.{Contains, nat_lt, ◌&&◌, if◌then◌else◌}
-use Rattle.std.specs.List.{AllByRecursion, flat_map}
-use Rattle.std.specs.Option.{option_map}
-use Rattle.std.proofs.lemmas.List.{append-nil}
-use Rattle.std.proofs.lemmas.Option.{same_Some, none-some}
-use Rattle.std.proofs.lemmas.Bool.{eq-eqb, ltb-false, ltb-true, and_from, cond-true, cond-false}
-use Rattle.dc_base.specs.Count.{window, sn, count_for}
+use Rattle.std.proofs.Common.{ℕ, ◌≡◌, ◌-◌, List, [], Option, Some, None, slice_get, refl, sym, ap, ◌∙◌, subst}
+use Rattle.std.specs.Prelude.{Contains}
+use Rattle.std.proofs.lemmas.Option.{none-some}
 use Rattle.dc_base.specs.declared.nodes.Dir.{Dir}
 use Rattle.dc_base.specs.declared.nodes.Dir.TheVariants.{Ul, Dl}
-use Rattle.dc_base.specs.declared.nodes.LinkId.{LinkId}
-use Rattle.dc_base.specs.declared.flights.Flight.{Flight}
-use Rattle.dc_base.specs.declared.flights.Flight.TheVariants as flight
-use Rattle.dc_base.specs.declared.answers.Answer.TheVariants as answer
-use Rattle.dc_base.specs.declared.answers.Refusal.TheVariants.{Aged}
 use Rattle.dc_base.specs.declared.events.Header.{Header}
-use Rattle.dc_base.specs.declared.events.Event.TheVariants.{Step}
-use Rattle.dc_base.specs.declared.events.Line.{Line}
-use Rattle.pdcp_pdu.specs.DataPdu.{IsPayload, data_pdu}
-use Rattle.pdcp_rx.specs.declared.entity.RxParts.{RxParts}
-use Rattle.pdcp_rx.specs.Run.{IsConsecutive}
-use Rattle.pdcp_rx.specs.Receiver.{put, handed_of, Received}
-use Rattle.pdcp_rx.proofs.Laws.{Received-put, Received-put_same, handed_consecutive}
-use Rattle.pdcp_tx.specs.Sender.{Sender, low}
-use Rattle.transcript.specs.Transcript.{Entry, sends, SomeEntry}
-use Rattle.transcript.specs.Content.{mt_ctl, tm_ctl, given, put_on, on_link, reverse, direction}
-use Rattle.transcript.specs.Bearers.{Established, established, latest, submitted, ups, handed, numbered, confirmed, confirms, confirmed_by, tag_of, tags_sent, frees, is_same_dir}
-use Rattle.transcript.specs.Claims.{TakesData, IsDataFlight, IsProtected, Carried, IsReason, receiver, due_answer, step_answer, is_behind as is_behind_in, is_aged as is_aged_in}
-use Rattle.transcript.proofs.OnEach.{each_weaker}
-use Rattle.transcript.proofs.Growing.{SomeEntry-later, SomeEntry-last}
-use Rattle.dc_world.specs.Entities.{Entities, Table, bearer_in, with_bearer}
-use Rattle.dc_world.specs.Plane.{leg, other, ciphered, data_flight, taken_for, up_line, ack_line, air_taken, is_behind, is_aged}
+use Rattle.transcript.specs.Transcript.{Entry}
+use Rattle.transcript.specs.Bearers.{Established, established, submitted}
+use Rattle.dc_world.specs.Entities.{Entities, bearer_in}
 use Rattle.dc_world.specs.Control.{Nodes}
-use Rattle.dc_world.specs.Links.{Links, on, moved}
-use Rattle.dc_world.specs.Run.{WorldState}
-use Rattle.transcript.proofs.Establishing.{submitted-next, handed-next, confirmed-next, tags_sent-next, same_bearer, is_latest_once, is_generation_once}
-use Rattle.dc_world.proofs.Lane.{IsNumbered, IsLane, numbered_below, Received-only, put_below, found_by_sn, lane_put, lane_handed}
-use Rattle.dc_world.proofs.Sound.{half, or_fresh, sender_table, receiver_table, CarriesCount, IsUnderWay, IsPduOf, IsAckOf, PromiseOf, Phase, idle, commanded, answered, listed, IsServed, IsTabled, Happened, Sound}
-use Rattle.dc_world.proofs.Tables.{with_receiver, at_the_master, is_the_bearer, deliv_is, Keeps, receiver_put, receiver_put_same, receiver_put_here, receiver_put_apart, keeps_all, keeps_receiver}
+use Rattle.dc_world.specs.Links.{Links}
+use Rattle.dc_world.proofs.Lane.{IsNumbered}
+use Rattle.dc_world.proofs.Sound.{receiver_table, Phase, idle, commanded, answered, IsTabled}
+use Rattle.dc_world.proofs.Tables.{at_the_master, is_the_bearer}
 
 -- no bearer of a submission is missing at the terminal
 not_missing : (h : Header) (t : List Entry) (s : Nodes) (links : Links) → Phase h t s links

@@ -1,10 +1,9 @@
 -- A data PDU is taken, or is aged.
-use Rattle.std.proofs.Common.{ℕ, ◌≡◌, ◌+◌, ◌-◌, ◌<◌, ◌≤◌, ◌⊎◌, ◌==◌, ◌++◌, List, [], ◌∷◌, Option, Some, None, true, false, length, map, take, slice_get, refl, sym, ap, ◌∙◌, subst, arith, inl, inr}
+use Rattle.std.proofs.Common.{ℕ, ◌≡◌, ◌+◌, ◌-◌, ◌<◌, ◌≤◌, ◌⊎◌, ◌==◌, ◌++◌, List, [], ◌∷◌, Option, Some, true, false, length, map, take, slice_get, refl, sym, ap, ◌∙◌, subst, arith, inl, inr}
 use Rattle.std.specs.Prelude.{Contains, nat_lt, ◌&&◌, if◌then◌else◌}
 use Rattle.std.specs.List.{AllByRecursion, flat_map}
-use Rattle.std.specs.Option.{option_map}
 use Rattle.std.proofs.lemmas.List.{append-nil}
-use Rattle.std.proofs.lemmas.Option.{same_Some, none-some}
+use Rattle.std.proofs.lemmas.Option.{same_Some}
 use Rattle.std.proofs.lemmas.Bool.{eq-eqb, ltb-false, ltb-true, and_from, cond-true, cond-false}
 use Rattle.dc_base.specs.Count.{window, sn, count_for}
 use Rattle.dc_base.specs.declared.nodes.Dir.{Dir}
@@ -19,7 +18,6 @@ use Rattle.dc_base.specs.declared.events.Event.TheVariants.{Step}
 use Rattle.dc_base.specs.declared.events.Line.{Line}
 use Rattle.pdcp_pdu.specs.DataPdu.{IsPayload, data_pdu}
 use Rattle.pdcp_rx.specs.declared.entity.RxParts.{RxParts}
-use Rattle.pdcp_rx.specs.Run.{IsConsecutive}
 use Rattle.pdcp_rx.specs.Receiver.{put, handed_of, Received}
 use Rattle.pdcp_rx.proofs.Laws.{Received-put, Received-put_same, handed_consecutive}
 use Rattle.pdcp_tx.specs.Sender.{Sender, low}
@@ -36,9 +34,9 @@ use Rattle.dc_world.specs.Links.{Links, on, moved}
 use Rattle.dc_world.specs.Run.{WorldState}
 use Rattle.transcript.proofs.Establishing.{submitted-next, handed-next, confirmed-next, tags_sent-next, same_bearer, is_latest_once, is_generation_once}
 use Rattle.dc_world.proofs.Lane.{IsNumbered, IsLane, numbered_below, Received-only, put_below, found_by_sn, lane_put, lane_handed}
-use Rattle.dc_world.proofs.Sound.{half, or_fresh, sender_table, receiver_table, CarriesCount, IsUnderWay, IsPduOf, IsAckOf, PromiseOf, Phase, idle, commanded, answered, listed, IsServed, IsTabled, Happened, Sound}
-use Rattle.dc_world.proofs.Tables.{with_receiver, at_the_master, is_the_bearer, deliv_is, Keeps, receiver_put, receiver_put_same, receiver_put_here, receiver_put_apart, keeps_all, keeps_receiver}
-use Rattle.dc_world.proofs.Directions.{each_bearer, Apart, parted, same_dir, direction_leg, not_apart, not_named}
+use Rattle.dc_world.proofs.Sound.{half, or_fresh, sender_table, receiver_table, CarriesCount, IsUnderWay, IsPduOf, IsAckOf, PromiseOf, listed, IsServed, Happened, Sound}
+use Rattle.dc_world.proofs.Tables.{with_receiver, deliv_is, Keeps, receiver_put, receiver_put_same, receiver_put_here, receiver_put_apart, keeps_all, keeps_receiver}
+use Rattle.dc_world.proofs.Directions.{each_bearer, Apart, same_dir, direction_leg, not_apart, not_named}
 use Rattle.dc_world.proofs.Plain.{IsPlain, there_then, there_before, tabled_same, phase_same}
 use Rattle.dc_world.proofs.Served.{lane_same, served_still}
 use Rattle.dc_world.proofs.Silent.{no_ups, no_frees, no_move, none_carried, none_sent_still, grows_next, IsSilent, plain_happened}

@@ -5,7 +5,7 @@ use Rattle.std.specs.List.{flat_map}
 use Rattle.std.proofs.lemmas.List.{append-nil, length_push}
 use Rattle.std.proofs.lemmas.List.FromFn.{length-range_with_len}
 use Rattle.std.proofs.lemmas.Option.{none-some}
-use Rattle.std.proofs.lemmas.Bool.{cases_Bool, cases_lt, eqb-true, eqb-false, eq-eqb, ne_eqb, leb-false, cond-false, cond-true}
+use Rattle.std.proofs.lemmas.Bool.{cases_Bool, cases_lt, eqb-true, eq-eqb, ne_eqb, cond-false, cond-true}
 use Rattle.std.proofs.lemmas.Bool.Decides.{nat_tests}
 use Rattle.dc_base.specs.Count.{window, sn}
 use Rattle.dc_base.specs.declared.nodes.Dir.{Dir}
@@ -17,7 +17,7 @@ use Rattle.dc_base.specs.declared.events.Header.{Header}
 use Rattle.dc_base.specs.declared.events.Event.TheVariants.{Submit}
 use Rattle.dc_base.specs.declared.events.Line.TheVariants as line
 use Rattle.pdcp_pdu.specs.DataPdu.{IsPayload, data_pdu}
-use Rattle.pdcp_tx.specs.Sender.{Sender, least, low, Entry as Kept}
+use Rattle.pdcp_tx.specs.Sender.{Sender, low}
 use Rattle.pdcp_tx.specs.Sending.{taken}
 use Rattle.pdcp_rx.specs.Receiver.{Received}
 use Rattle.transcript.specs.Transcript.{Entry, sends}
@@ -35,7 +35,7 @@ use Rattle.dc_world.proofs.Lane.{IsLane, low_is, lane_taken}
 use Rattle.dc_world.proofs.Taking.{is_data_flight}
 use Rattle.dc_world.proofs.Tables.{with_sender, is_established, Keeps, half_at, sender_put_here, sender_put_apart, sender_put_rx, keeps_sender}
 use Rattle.dc_world.proofs.Contents.{on_moved}
-use Rattle.dc_world.proofs.Directions.{each_bearer, Apart, parted, same_dir, other_dir, direction_leg}
+use Rattle.dc_world.proofs.Directions.{each_bearer, Apart, same_dir, other_dir, direction_leg}
 use Rattle.dc_world.proofs.Plain.{IsPlain, plans_same, generation_same, there_then, there_before, tabled_same, phase_same}
 use Rattle.dc_world.proofs.Served.{lane_same, under_way_left, served_next, served_still}
 use Rattle.dc_world.proofs.Silent.{no_ups, no_frees, no_move, none_carried, grows_same}
