@@ -1,12 +1,9 @@
 -- An ack is taken.
-use Rattle.std.proofs.Common.{ℕ, zero, suc, ◌≡◌, ◌+◌, ◌-◌, ◌<◌, ◌≤◌, ◌==◌, ◌++◌, List, [], ◌∷◌, Option, Some, None, Bool, true, false, length, slice_get, refl, sym, ap, ◌∙◌, subst, arith, inl, inr}
-use Rattle.std.specs.Prelude.{Contains, nat_lt, if◌then◌else◌, fold, remove}
+use Rattle.std.proofs.Common.{ℕ, ◌≡◌, ◌+◌, ◌-◌, ◌<◌, ◌≤◌, ◌==◌, ◌++◌, List, [], ◌∷◌, Option, Some, None, Bool, length, slice_get, refl, sym, ap, ◌∙◌, subst, arith, inl, inr}
+use Rattle.std.specs.Prelude.{Contains, nat_lt, if◌then◌else◌, fold}
 use Rattle.std.specs.List.{AllByRecursion, flat_map}
-use Rattle.std.specs.Option.{option_map}
 use Rattle.std.proofs.lemmas.List.{append-nil}
-use Rattle.std.proofs.lemmas.Option.{same_Some}
-use Rattle.std.proofs.lemmas.Bool.{cases_Bool, eqb-true, eq-eqb, cond-true}
-use Rattle.std.proofs.lemmas.Bool.Decides.{nat_tests}
+use Rattle.std.proofs.lemmas.Bool.{cases_Bool, eq-eqb, cond-true, lt-ltb}
 use Rattle.dc_base.specs.declared.nodes.Dir.{Dir}
 use Rattle.dc_base.specs.declared.nodes.Dir.TheVariants.{Ul, Dl}
 use Rattle.dc_base.specs.declared.nodes.LinkId.{LinkId}
@@ -18,43 +15,32 @@ use Rattle.dc_base.specs.declared.events.Event.TheVariants.{Step}
 use Rattle.dc_base.specs.declared.events.Line.{Line}
 use Rattle.pdcp_tx.specs.Sender.{low}
 use Rattle.pdcp_tx.specs.Sending.{confirmed as without}
-use Rattle.pdcp_rx.specs.declared.entity.RxParts.{RxParts}
 use Rattle.pdcp_rx.specs.Receiver.{Received}
-use Rattle.transcript.specs.Transcript.{Entry, sends, SomeEntry}
-use Rattle.transcript.specs.Content.{mt_ctl, tm_ctl, mt_air, tm_air, given, on_link, without_taken}
-use Rattle.transcript.specs.Bearers.{Established, established, is_same_dir, ends_command, has_after, submitted, up_of, freed_of, frees, confirmed_by, confirms, confirmed, tag_of, tags_sent}
-use Rattle.transcript.specs.Claims.{TakesData, IsDataFlight, IsProtected, IsReason, step_answer}
+use Rattle.transcript.specs.Transcript.{Entry, sends}
+use Rattle.transcript.specs.Content.{mt_ctl, tm_ctl, mt_air, tm_air, given, on_link}
+use Rattle.transcript.specs.Bearers.{Established, established, ends_command, has_after, submitted, up_of, freed_of, frees, confirmed_by, confirms, confirmed, tag_of, tags_sent, ups}
+use Rattle.transcript.specs.Claims.{IsDataFlight, IsProtected, IsReason, step_answer, HasCause}
 use Rattle.dc_world.specs.Entities.{Entities, Table, bearer_in, with_bearer}
 use Rattle.dc_world.specs.Plane.{leg, other, air_taken, taken_for, flight_taken, confirmed_at, freed_lines}
 use Rattle.dc_world.specs.Control.{Nodes}
 use Rattle.dc_world.specs.Links.{Links, on, moved}
 use Rattle.dc_world.specs.Run.{WorldState}
-use Rattle.transcript.proofs.Establishing.{tags_sent-next, same_bearer, is_latest_once, is_generation_once}
+use Rattle.transcript.proofs.Establishing.{is_latest_once, is_generation_once}
 use Rattle.dc_world.proofs.Lane.{IsLane, lane_confirmed, received_below, sent_at}
-use Rattle.dc_world.proofs.Tables.{with_receiver, at_the_master}
-use Rattle.dc_world.proofs.Contents.{on_moved}
-use Rattle.dc_world.proofs.Directions.{Apart, parted, not_other, same_dir, other_dir, direction_leg, not_named}
-use Rattle.dc_world.proofs.Tables.{Keeps, half_at, sender_put, sender_put_same, sender_put_here, sender_put_apart, sender_put_rx, keeps_all, keeps_sender}
-use Rattle.dc_world.proofs.Plain.{IsPlain, plans_same, generation_same, there_then, there_before, tabled_same, phase_same}
-use Rattle.dc_world.proofs.Served.{lane_same, under_way_left, served_next, served_still}
+use Rattle.dc_world.proofs.Tables.{with_receiver, at_the_master, Keeps, half_at, sender_put, sender_put_same, sender_put_here, sender_put_apart, sender_put_rx, keeps_all, keeps_sender}
+use Rattle.dc_world.proofs.Directions.{each_bearer, not_named, Apart, not_other}
+use Rattle.dc_world.proofs.Plain.{IsPlain, there_then, there_before, tabled_same, phase_same}
+use Rattle.dc_world.proofs.Served.{lane_same, served_next, served_still}
 use Rattle.dc_world.proofs.Silent.{no_ups, no_frees, no_move, none_carried, none_sent_still, grows_same, IsSilent, plain_happened}
-use Rattle.transcript.specs.Bearers.{ups}
-use Rattle.transcript.specs.Claims.{HasCause}
+use Rattle.dc_world.proofs.Contents.{step_given, step_due}
 use Rattle.dc_world.proofs.Leaving.{flying_after, control_down, control_up}
-use Rattle.dc_world.proofs.Sound.{or_fresh}
-use Rattle.dc_world.proofs.Sound.{half, sender_table, receiver_table, IsAckOf, CarriesCount, IsUnderWay, PromiseOf, listed, IsServed, Happened, Sound}
+use Rattle.dc_world.proofs.Sound.{or_fresh, half, sender_table, receiver_table, IsAckOf, IsUnderWay, PromiseOf, listed, IsServed, Happened, Sound}
 
 -- ---- lines and links
 
 -- a bearer of another identity, or in uplink, is not told of
 freed_apart : (b : Established) (d : Dir) (id x y : ℕ) → Apart Dl id d b.id → flat_map (freed_of b d) (freed_lines id x y) ≡ []
-freed_apart b d id x y (inl turned) =
-    let uplink : is_same_dir Dl d ≡ false = ap (is_same_dir Dl) turned in
-    elim (cases_Bool (nat_lt x y)) [
-      | inl less ↦ elim (cases_Bool (id == b.id)) [ inl same ↦ rw (less, same, uplink) refl | inr apart ↦ rw (less, apart) refl ]
-      | inr most ↦ rw most refl
-    ]
-freed_apart b d id x y (inr apart) = elim (cases_Bool (nat_lt x y)) [ inl less ↦ rw (less, apart) refl | inr most ↦ rw most refl ]
+freed_apart b d id x y apart = elim (cases_Bool (nat_lt x y)) [ inl less ↦ rw (less, not_named Dl id d b.id apart) refl | inr most ↦ rw most refl ]
 
 -- the bearer is, where Low rises
 freed_here : (b : Established) (x y : ℕ) → flat_map (freed_of b Dl) (freed_lines b.id x y) ≡ (if nat_lt x y then y ∷ [] else [])
@@ -80,10 +66,6 @@ freed_sets k has id x y = elim (cases_Bool (nat_lt x y)) [ inl less ↦ rw less 
 abbrev rising : Entities → Entities → List ℕ
 rising x y = if nat_lt (low x.tx) (low y.tx) then low y.tx ∷ [] else []
 
--- a test that succeeds
-is_less : (m n : ℕ) → m < n → nat_lt m n ≡ true
-is_less m n less = grind (arith, nat_tests)
-
 -- an ack that is given is neither out of order nor aged
 ack_due : (d : Dir) (t : List Entry) (i id g num : ℕ) → step_answer t (leg (other d)) i (Some (flight.Ack id g num)) ≡ answer.Ok
 ack_due Dl t i id g num = refl
@@ -102,14 +84,11 @@ module _ (h : Header) (policies : ℕ) (t : List Entry) (w : WorldState) (sound 
 
     -- the ack is given
     given_is : given t entry ≡ Some (leg (other d), flight.Ack id g num)
-    given_is =
-        ap (λ fs. option_map (λ f. (leg (other d), f)) (slice_get fs i)) (sound.contents (leg (other d)))
-        ∙ ap (option_map (λ f. (leg (other d), f))) at
+    given_is = step_given t w.links sound.contents (leg (other d)) i (flight.Ack id g num) at lines
 
     -- its answer is due
     ack_cause : HasCause policies t entry
-    ack_cause = sym (ap (λ fs. step_answer t (leg (other d)) i (slice_get fs i)) (sound.contents (leg (other d)))
-        ∙ ap (step_answer t (leg (other d)) i) at ∙ ack_due d t i id g num)
+    ack_cause = sym (step_due t w.links sound.contents (leg (other d)) i (flight.Ack id g num) at ∙ ack_due d t i id g num)
 
   -- ---- an ack of uplink, at the terminal
 
@@ -244,7 +223,7 @@ module _ (h : Header) (policies : ℕ) (t : List Entry) (w : WorldState) (sound 
         let within : num < length (submitted b Dl t) = omega arith in
         let is : b.first + num ≡ count = omega arith in
         sent_at b.n b.first (submitted b Dl t) (confirmed b Dl t) e.tx e.sent (half b w.nodes.terminal).rx lane num
-        ∙ cond-true _ _ _ (is_less num (length (submitted b Dl t)) within) ∙ ap Some is
+        ∙ cond-true _ _ _ (lt-ltb num (length (submitted b Dl t)) within) ∙ ap Some is
 
     -- what the master makes of the ack
     taken_is : air_taken h Ul w.nodes.master (flight.Ack b.id b.g num) ≡ (with_bearer w.nodes.master b.id (Some e'), lines)
@@ -285,33 +264,19 @@ module _ (h : Header) (policies : ℕ) (t : List Entry) (w : WorldState) (sound 
 
     -- so is every other
     served_all : (b' : Established) (d' : Dir) → Contains (established t) b' → IsServed (t ++ heeded ∷ []) after left_links b' d'
-    served_all b' d' there =
-        elim (parted Dl b.id d' b'.id) [
-          | inl same ↦
-              let is : b' ≡ b = same_bearer (established t) b' b sound.tables.once there here same.1 in
-              subst (λ k. IsServed (t ++ heeded ∷ []) after left_links b' k) (sym same.0)
-              (subst (λ x. IsServed (t ++ heeded ∷ []) after left_links x Dl) (sym is) served_here)
-          | inr apart ↦
-              let same : half b' (sender_table d' after) ≡ half b' (sender_table d' w.nodes) = sender_put_apart Dl w.nodes b.id e' b' d' apart in
-              served_still t w.nodes w.links b' d' heeded after left_links (sound.served b' d' there) (nothing_up b' d') (rx_still b' d') refl (confirms_apart b' d' apart)
-              (λ n. no_tags (leg d') b'.id b'.g n) (ap (λ (x : Entities). x.tx) same) (ap (λ (x : Entities). x.sent) same) (λ k way. inr (flying_here b' d' k way))
-        ]
+    served_all = each_bearer (established t) sound.tables.once b here Dl b.id refl (λ x k. IsServed (t ++ heeded ∷ []) after left_links x k) served_here (λ b' d' there apart.
+        let same : half b' (sender_table d' after) ≡ half b' (sender_table d' w.nodes) = sender_put_apart Dl w.nodes b.id e' b' d' apart in
+        served_still t w.nodes w.links b' d' heeded after left_links (sound.served b' d' there) (nothing_up b' d') (rx_still b' d') refl (confirms_apart b' d' apart)
+        (λ n. no_tags (leg d') b'.id b'.g n) (ap (λ (x : Entities). x.tx) same) (ap (λ (x : Entities). x.sent) same) (λ k way. inr (flying_here b' d' k way)))
 
     -- its window moves where Low rises, and no other
     freed_all : (b' : Established) (d' : Dir) → Contains (established t) b'
         → frees b' d' t heeded ≡ (if nat_lt (low (half b' (sender_table d' w.nodes)).tx) (low (half b' (sender_table d' after)).tx) then low (half b' (sender_table d' after)).tx ∷ [] else [])
     freed_all b' d' there =
         cond-true _ _ _ (is_latest_once t b' sound.tables.once there)
-        ∙ elim (parted Dl b.id d' b'.id) [
-          | inl same ↦
-              let is : b' ≡ b = same_bearer (established t) b' b sound.tables.once there here same.1 in
-              subst (λ k. flat_map (freed_of b' k) lines ≡ rising (half b' (sender_table k w.nodes)) (half b' (sender_table k after))) (sym same.0)
-              (subst (λ x. flat_map (freed_of x Dl) lines ≡ rising (half x w.nodes.master) (half x after.master)) (sym is)
-              (freed_here b (low e.tx) (low e'.tx) ∙ ap (λ x. rising x e') (sym half_before) ∙ ap (rising (half b w.nodes.master)) (sym half_after)))
-          | inr apart ↦
-              freed_apart b' d' b.id (low e.tx) (low e'.tx) apart
-              ∙ no_move _ _ (ap (λ (x : Entities). low x.tx) (sender_put_apart Dl w.nodes b.id e' b' d' apart))
-        ]
+        ∙ each_bearer (established t) sound.tables.once b here Dl b.id refl (λ x k. flat_map (freed_of x k) lines ≡ rising (half x (sender_table k w.nodes)) (half x (sender_table k after)))
+        (freed_here b (low e.tx) (low e'.tx) ∙ ap (λ x. rising x e') (sym half_before) ∙ ap (rising (half b w.nodes.master)) (sym half_after))
+        (λ x k there apart. freed_apart x k b.id (low e.tx) (low e'.tx) apart ∙ no_move _ _ (ap (λ (x : Entities). low x.tx) (sender_put_apart Dl w.nodes b.id e' x k apart))) b' d' there
 
     -- so all is kept
     heeded_happened : Happened h policies t w heeded after

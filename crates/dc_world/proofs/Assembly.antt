@@ -1,5 +1,5 @@
 -- From what an event owes to all that is kept.
-use Rattle.std.proofs.Common.{ℕ, ◌≡◌, ◌+◌, ◌-◌, ◌==◌, ◌≤◌, ◌++◌, length, take, drop, slice_get, List, [], ◌∷◌, Option, Some, None, Bool, true, false, refl, sym, ap, ◌∙◌, subst, arith, inl, inr, ◌⊎◌, ◌<◌}
+use Rattle.std.proofs.Common.{ℕ, ◌≡◌, ◌+◌, ◌-◌, ◌++◌, length, take, drop, List, [], ◌∷◌, Option, Some, None, sym, ap, ◌∙◌, subst, inl, inr, ◌⊎◌}
 use Rattle.std.specs.Prelude.{if◌then◌else◌, nat_lt, Contains, remove}
 use Rattle.std.specs.List.{AllByRecursion, flat_map}
 use Rattle.dc_base.specs.declared.nodes.Dir.{Dir}
@@ -13,24 +13,23 @@ use Rattle.dc_base.specs.declared.flights.Flight.{Flight}
 use Rattle.dc_base.specs.declared.events.Header.{Header}
 use Rattle.transcript.specs.Transcript.{Entry, sends}
 use Rattle.transcript.specs.Content.{is_same_link, without_taken, on_link, put_on, place_taken}
-use Rattle.transcript.specs.Bearers.{Established, established, submission, submitted, ups, handed, confirms, confirmed, tag_of, tags_sent, numbered, least_but, told}
-use Rattle.transcript.specs.Claims.{TakesData, KeepsAll, HasCause, IsLicensed}
+use Rattle.transcript.specs.Bearers.{Established, established, submitted, handed, confirmed, numbered, least_but, told}
+use Rattle.transcript.specs.Claims.{KeepsAll, HasCause, IsLicensed}
 use Rattle.transcript.proofs.OnEach.{each_append, each_remove, each_weaker}
-use Rattle.transcript.proofs.Growing.{Each-next, SomeEntry-later}
-use Rattle.transcript.proofs.Establishing.{submitted-next, handed-next, confirmed-next, tags_sent-next, none_submitted, none_confirmed}
-use Rattle.std.proofs.lemmas.List.{append-nil, take-append-drop}
-use Rattle.std.proofs.lemmas.Bool.{cond_both, eqb-true}
+use Rattle.transcript.proofs.Growing.{Each-next}
+use Rattle.transcript.proofs.Establishing.{none_submitted, none_confirmed}
+use Rattle.std.proofs.lemmas.List.{take-append-drop}
+use Rattle.std.proofs.lemmas.Bool.{cond_both}
 use Rattle.pdcp_tx.specs.Sender.{low}
-use Rattle.pdcp_rx.specs.Receiver.{Received}
-use Rattle.dc_world.specs.Entities.{Entities, bearer_in}
+use Rattle.dc_world.specs.Entities.{bearer_in}
 use Rattle.dc_world.proofs.Lists.{numbered-append}
-use Rattle.dc_world.proofs.Lane.{IsLane, low_is, all_handed}
+use Rattle.dc_world.proofs.Lane.{low_is, all_handed}
 use Rattle.dc_world.proofs.Contents.{on_moved, length_moved, contents-next, same_link}
 use Rattle.dc_world.specs.Control.{Nodes}
 use Rattle.dc_world.specs.Links.{Links, on, moved}
 use Rattle.dc_world.specs.Plane.{leg, other}
 use Rattle.dc_world.specs.Run.{WorldState}
-use Rattle.dc_world.proofs.Sound.{or_fresh, half, sender_table, receiver_table, listed, IsUnderWay, IsServed, IsPduOf, IsAckOf, Promise, PromiseOf, Grows, Happened, Sound}
+use Rattle.dc_world.proofs.Sound.{or_fresh, half, sender_table, receiver_table, IsUnderWay, IsServed, IsPduOf, IsAckOf, Promise, PromiseOf, Grows, Happened, Sound}
 
 module _ (h : Header) (t : List Entry) (s : Nodes) (t' : List Entry) (s' : Nodes) (grows : Grows t s t' s') where
   pdu_later : (d : Dir) (f : Flight) → IsPduOf h t d f → IsPduOf h t' d f

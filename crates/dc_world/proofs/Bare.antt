@@ -1,26 +1,21 @@
 -- A bearer that carried nothing yet.
-use Rattle.std.proofs.Common.{◌==◌, ℕ, ◌≡◌, ◌+◌, ◌-◌, ◌^◌, ◌<◌, ◌≤◌, ◌++◌, List, [], ◌∷◌, Some, length, take, slice_get, refl, sym, ap, ◌∙◌, subst, arith, inl, inr, append-nil, Bool, true, false}
-use Rattle.std.specs.Prelude.{if◌then◌else◌, nat_lt, Contains}
-use Rattle.std.specs.List.{list_any, AllByRecursion, flat_map}
+use Rattle.std.proofs.Common.{◌==◌, ℕ, ◌≡◌, ◌+◌, ◌-◌, ◌^◌, ◌<◌, ◌≤◌, List, [], ◌∷◌, Some, length, take, slice_get, refl, sym, ap, ◌∙◌, subst, arith, inl, inr, false}
+use Rattle.std.specs.List.{list_any, AllByRecursion}
 use Rattle.std.proofs.Math.Seq.{take-nil}
 use Rattle.std.proofs.lemmas.Option.{slice_get_past}
-use Rattle.std.proofs.lemmas.Bool.{cond-false, le-ltb}
 use Rattle.dc_base.specs.declared.nodes.Dir.{Dir}
-use Rattle.dc_base.specs.declared.nodes.LinkId.{LinkId}
 use Rattle.pdcp_tx.specs.Sender.{Sender, Entry as Kept, low, least, Rises}
 use Rattle.pdcp_rx.specs.declared.entity.RxParts.{RxParts}
 use Rattle.pdcp_rx.specs.Entries.{AscendFrom}
 use Rattle.pdcp_rx.specs.Receiver.{Received}
-use Rattle.transcript.specs.Transcript.{Entry, sends, SomeEntry}
-use Rattle.transcript.specs.Bearers.{Established, established, generation, submission, submitted, ups, handed, numbered, confirms, confirmed, tag_of, tags_sent, frees, established_by, plans, plan_drawn, is_draw}
-use Rattle.transcript.specs.Claims.{TakesData, Carried}
+use Rattle.transcript.specs.Transcript.{Entry}
+use Rattle.transcript.specs.Bearers.{Established, submitted, handed, numbered, confirmed, tags_sent}
 use Rattle.dc_world.specs.Entities.{fresh}
 use Rattle.dc_world.specs.Plane.{leg}
 use Rattle.dc_world.specs.Control.{Nodes}
 use Rattle.dc_world.specs.Links.{Links}
-use Rattle.transcript.proofs.Establishing.{confirmed-next, submitted-next, handed-next, tags_sent-next, generation-next, established-next, plans-next}
 use Rattle.dc_world.proofs.Lane.{IsNumbered, IsLane}
-use Rattle.dc_world.proofs.Sound.{half, sender_table, receiver_table, listed, IsServed, Grows, NoneSent}
+use Rattle.dc_world.proofs.Sound.{half, sender_table, receiver_table, listed, IsServed}
 
 -- its sending entity, and the COUNTs sent on its leg
 pub record IsBare (b : Established) (tx : Sender) (sent : List ℕ) : Type 0 where

@@ -1,5 +1,5 @@
 -- The master sets a bearer up.
-use Rattle.std.proofs.Common.{ℕ, ◌≡◌, ◌+◌, ◌-◌, ◌^◌, ◌<◌, ◌≤◌, ◌==◌, ◌⊎◌, ◌++◌, List, [], ◌∷◌, Option, Some, None, true, false, refl, sym, ap, ◌∙◌, subst, arith, inl, inr, append-nil}
+use Rattle.std.proofs.Common.{ℕ, ◌≡◌, ◌+◌, ◌-◌, ◌^◌, ◌<◌, ◌≤◌, ◌==◌, ◌⊎◌, ◌++◌, List, [], ◌∷◌, Option, Some, None, true, false, refl, sym, ap, ◌∙◌, subst, arith, inl, inr, append-nil, Bool}
 use Rattle.std.specs.Prelude.{Contains, nat_le, not, is_some, if◌then◌else◌}
 use Rattle.std.specs.List.{flat_map, list_any}
 use Rattle.std.specs.Option.{option_map}
@@ -20,9 +20,9 @@ use Rattle.dc_base.specs.declared.events.Note.TheVariants as note
 use Rattle.pdcp_tx.specs.Sender.{low}
 use Rattle.transcript.specs.Transcript.{Entry}
 use Rattle.transcript.specs.Content.{mt_ctl, tm_ctl}
-use Rattle.transcript.specs.Bearers.{open_command, unless_opening, at_master, master_key, submitted, Established, established, established_by, generation, plans, plan_drawn, is_latest, latest, is_set, at_terminal, key_in, confirms}
+use Rattle.transcript.specs.Bearers.{open_command, unless_opening, at_master, master_key, submitted, Established, established, established_by, generation, plans, plan_drawn, latest, is_set, at_terminal, key_in, confirms}
 use Rattle.transcript.specs.Claims.{is_mm, IsLicensed, HasCause}
-use Rattle.dc_world.specs.Entities.{Entities, fresh, bearer_in, with_bearer}
+use Rattle.dc_world.specs.Entities.{fresh, bearer_in, with_bearer}
 use Rattle.dc_world.specs.Plane.{leg}
 use Rattle.dc_world.specs.Control.{Nodes, opened, plan_for}
 use Rattle.dc_world.specs.Links.{Links, on, moved}
@@ -30,11 +30,11 @@ use Rattle.dc_world.specs.Run.{WorldState}
 use Rattle.transcript.proofs.Establishing.{established-next, generation-next, plans-next, open_command-next, is_set-next, IsOnce, latest-push, once-push, contains_push, contains_left, contains_last, established_drawn, none_submitted, none_confirmed, none_handed, key_in-other, key_in-same}
 use Rattle.dc_world.proofs.Contents.{on_moved}
 use Rattle.dc_world.proofs.Tables.{bearer_in-same, bearer_in-other, length-with_bearer}
-use Rattle.std.proofs.Common.{Bool}
+use Rattle.dc_world.proofs.Plain.{none_mapped}
 use Rattle.dc_world.proofs.Served.{served_still}
 use Rattle.dc_world.proofs.Silent.{no_ups, no_frees, no_move, none_carried, none_sent_still, grows_same, IsSilent, submitted_same, handed_same, confirmed_same, tags_same}
 use Rattle.dc_world.proofs.Bare.{IsBare, fresh_bare, bare_served}
-use Rattle.dc_world.proofs.Sound.{NoneSent, or_fresh, half, sender_table, receiver_table, IsUnderWay, IsServed, AllConfigured, Phase, idle as phase_idle, commanded as phase_commanded, answered as phase_answered, IsTabled, Happened, Sound}
+use Rattle.dc_world.proofs.Sound.{or_fresh, half, sender_table, receiver_table, IsUnderWay, IsServed, AllConfigured, Phase, idle as phase_idle, commanded as phase_commanded, answered as phase_answered, IsTabled, Happened, Sound}
 
 -- nothing is there
 is_none : {A : Type 0} (o : Option A) → is_some o ≡ false → o ≡ None
@@ -147,17 +147,12 @@ module _ (h : Header) (policies : ℕ) (t : List Entry) (w : WorldState) (sound 
 
     -- it is new to the terminal
     not_at_terminal : bearer_in w.nodes.terminal id ≡ None
-    not_at_terminal = no_bearer (bearer_in w.nodes.terminal id) (sound.tables.terminal_is id ∙ unset (is_set id t) (latest id (established t)) not_established)
+    not_at_terminal = none_mapped (bearer_in w.nodes.terminal id) (sound.tables.terminal_is id ∙ unset (is_set id t) (latest id (established t)) not_established)
       where
         -- nothing, whether it is set up or not
         unset : (set : Bool) (o : Option Established) → o ≡ None → (if set then o else None) ≡ None
         unset true o none = none
         unset false o none = refl
-
-        -- no bearer, no entities
-        no_bearer : (o : Option Entities) → option_map (λ e. e.bearer) o ≡ None → o ≡ None
-        no_bearer None none = refl
-        no_bearer (Some e) none = absurd cc
 
     -- so the terminal was never told of it
     not_set : is_set id t ≡ false

@@ -1,8 +1,7 @@
 -- The master takes that the terminal did.
-use Rattle.std.proofs.Common.{ℕ, ◌≡◌, ◌++◌, List, [], ◌∷◌, Some, None, true, slice_get, refl, sym, ap, ◌∙◌, subst, arith, inl, append-nil}
+use Rattle.std.proofs.Common.{ℕ, ◌≡◌, ◌++◌, List, [], ◌∷◌, Some, None, true, slice_get, refl, sym, ap, ◌∙◌, subst, append-nil, inr}
 use Rattle.std.specs.Prelude.{Contains, if◌then◌else◌}
 use Rattle.std.specs.List.{remove}
-use Rattle.std.specs.Option.{option_map}
 use Rattle.std.proofs.lemmas.Bool.{cond-true, eq-eqb}
 use Rattle.dc_base.specs.declared.nodes.Dir.{Dir}
 use Rattle.dc_base.specs.declared.nodes.Dir.TheVariants.{Ul, Dl}
@@ -13,21 +12,19 @@ use Rattle.dc_base.specs.declared.events.Header.{Header}
 use Rattle.dc_base.specs.declared.events.Event.TheVariants.{Step}
 use Rattle.dc_base.specs.declared.events.Line.TheVariants as line
 use Rattle.dc_base.specs.declared.events.Note.TheVariants as note
-use Rattle.pdcp_tx.specs.Sender.{low}
 use Rattle.transcript.specs.Transcript.{Entry}
 use Rattle.transcript.specs.Content.{mt_ctl, tm_ctl, given}
-use Rattle.transcript.specs.Bearers.{Established, established, is_latest, latest, is_set, key_in, confirms, confirmed_by}
-use Rattle.transcript.specs.Claims.{HasCause, step_answer}
+use Rattle.transcript.specs.Bearers.{Established, established, latest, is_set, key_in, confirms, confirmed_by}
+use Rattle.transcript.specs.Claims.{HasCause}
 use Rattle.dc_world.specs.Plane.{leg}
 use Rattle.dc_world.specs.Control.{Nodes, is_open, told_master}
 use Rattle.dc_world.specs.Links.{Links, on, moved}
 use Rattle.dc_world.specs.Run.{WorldState}
 use Rattle.transcript.proofs.Establishing.{open_command-next, is_set-next, IsOnce}
-use Rattle.dc_world.proofs.Contents.{on_moved}
+use Rattle.dc_world.proofs.Contents.{on_moved, step_given, step_due}
 use Rattle.dc_world.proofs.Plain.{IsUndrawn, plans_same, established_same, generation_same, there_before}
 use Rattle.dc_world.proofs.Silent.{no_ups, no_frees, IsSilent, silent_happened}
-use Rattle.std.proofs.Common.{inr}
-use Rattle.dc_world.proofs.Sound.{half, sender_table, receiver_table, IsUnderWay, IsServed, AllConfigured, Phase, idle as phase_idle, IsTabled, Happened, Sound}
+use Rattle.dc_world.proofs.Sound.{half, sender_table, IsUnderWay, AllConfigured, Phase, idle as phase_idle, IsTabled, Happened, Sound}
 
 module _ (h : Header) (policies : ℕ) (t : List Entry) (w : WorldState) (sound : Sound h policies t w) (b : Established) (there : Contains (established t) b) where
   -- the entry
@@ -69,7 +66,7 @@ module _ (h : Header) (policies : ℕ) (t : List Entry) (w : WorldState) (sound 
   module _ (at : on w.links tm_ctl ≡ flight.Ctl (Rcomp b.g) ∷ []) where
     -- the flight that it gives
     completed_given : given t completed ≡ Some (tm_ctl, flight.Ctl (Rcomp b.g))
-    completed_given = ap (λ fs. option_map (λ f. (tm_ctl, f)) (slice_get fs 0)) (sound.contents tm_ctl ∙ at)
+    completed_given = step_given t w.links sound.contents tm_ctl 0 (flight.Ctl (Rcomp b.g)) (ap (λ fs. slice_get fs 0) at) completed.lines
 
     -- it carries no data
     completed_silent : IsSilent t completed
@@ -99,7 +96,7 @@ module _ (h : Header) (policies : ℕ) (t : List Entry) (w : WorldState) (sound 
 
     -- its answer is due
     completed_cause : HasCause policies t completed
-    completed_cause = sym (ap (λ fs. step_answer t tm_ctl 0 (slice_get fs 0)) (sound.contents tm_ctl ∙ at))
+    completed_cause = sym (step_due t w.links sound.contents tm_ctl 0 (flight.Ctl (Rcomp b.g)) (ap (λ fs. slice_get fs 0) at))
 
     -- all that it owes
     pub completed_happened : on w.links mt_ctl ≡ [] → AllConfigured t w.nodes → Happened h policies t w completed completed_nodes

@@ -18,15 +18,15 @@ use Rattle.dc_base.specs.declared.events.Note.TheVariants as note
 use Rattle.pdcp_tx.specs.Sender.{low}
 use Rattle.transcript.specs.Transcript.{Entry}
 use Rattle.transcript.specs.Content.{mt_ctl, tm_ctl, given}
-use Rattle.transcript.specs.Bearers.{submitted, handed, confirmed, tags_sent, Established, established, is_latest, latest, is_set, at_terminal, key_in, confirms, confirmed_by}
-use Rattle.transcript.specs.Claims.{IsLicensed, HasCause, step_answer}
+use Rattle.transcript.specs.Bearers.{submitted, handed, confirmed, tags_sent, Established, established, latest, is_set, at_terminal, key_in, confirms, confirmed_by}
+use Rattle.transcript.specs.Claims.{IsLicensed, HasCause}
 use Rattle.dc_world.specs.Entities.{fresh, bearer_in, with_bearer}
 use Rattle.dc_world.specs.Plane.{leg}
 use Rattle.dc_world.specs.Control.{Nodes, plan_for}
 use Rattle.dc_world.specs.Links.{Links, on, moved}
 use Rattle.dc_world.specs.Run.{WorldState}
 use Rattle.transcript.proofs.Establishing.{open_command-next, is_set-next, IsOnce, same_bearer}
-use Rattle.dc_world.proofs.Contents.{on_moved}
+use Rattle.dc_world.proofs.Contents.{on_moved, step_given, step_due}
 use Rattle.dc_world.proofs.Tables.{bearer_in-same, bearer_in-other, length-with_bearer}
 use Rattle.dc_world.proofs.Plain.{IsUndrawn, plans_same, established_same, generation_same, there_then, there_before}
 use Rattle.dc_world.proofs.Served.{served_still}
@@ -54,7 +54,7 @@ module _ (h : Header) (policies : ℕ) (t : List Entry) (w : WorldState) (sound 
   module _ (at : on w.links mt_ctl ≡ flight.Ctl (Reconf plan h.root) ∷ []) where
     -- the flight that it gives
     configured_given : given t configured ≡ Some (mt_ctl, flight.Ctl (Reconf plan h.root))
-    configured_given = ap (λ fs. option_map (λ f. (mt_ctl, f)) (slice_get fs 0)) (sound.contents mt_ctl ∙ at)
+    configured_given = step_given t w.links sound.contents mt_ctl 0 (flight.Ctl (Reconf plan h.root)) (ap (λ fs. slice_get fs 0) at) configured.lines
 
     -- it carries no data
     configured_silent : IsSilent t configured
@@ -75,7 +75,7 @@ module _ (h : Header) (policies : ℕ) (t : List Entry) (w : WorldState) (sound 
 
     -- its answer is due
     configured_cause : HasCause policies t configured
-    configured_cause = sym (ap (λ fs. step_answer t mt_ctl 0 (slice_get fs 0)) (sound.contents mt_ctl ∙ at))
+    configured_cause = sym (step_due t w.links sound.contents mt_ctl 0 (flight.Ctl (Reconf plan h.root)) (ap (λ fs. slice_get fs 0) at))
 
   -- no generation is drawn
   undrawn : IsUndrawn configured

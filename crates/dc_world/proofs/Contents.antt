@@ -1,9 +1,8 @@
 -- What stands on each link after an event.
-use Rattle.std.proofs.Common.{ℕ, zero, suc, ◌≡◌, ◌+◌, ◌<◌, ◌≤◌, ◌==◌, ◌++◌, true, false, List, [], ◌∷◌, Option, Some, None, length, slice_get, refl, sym, ap, ◌∙◌, subst, arith, inl, inr}
+use Rattle.std.proofs.Common.{ℕ, ◌≡◌, ◌<◌, ◌++◌, true, List, [], ◌∷◌, Option, Some, None, length, refl, sym, ap, ◌∙◌, arith, inl, inr, append_assoc, slice_get}
 use Rattle.std.specs.Prelude.{if◌then◌else◌, fold, remove, slice_index_or}
 use Rattle.std.specs.List.{flat_map}
 use Rattle.std.proofs.lemmas.List.{get_or-set_same, get_or-set_other, length-set, append-nil}
-use Rattle.std.proofs.Common.{append_assoc}
 use Rattle.std.proofs.lemmas.Bool.{cases_Bool, eqb-true, eq-eqb}
 use Rattle.dc_base.specs.declared.nodes.Node.{Node}
 use Rattle.dc_base.specs.declared.nodes.Node.TheVariants.{T, M, A, B}
@@ -13,7 +12,11 @@ use Rattle.dc_base.specs.declared.nodes.LinkId.{LinkId}
 use Rattle.dc_base.specs.declared.flights.Flight.{Flight}
 use Rattle.dc_base.specs.declared.events.Line.{Line}
 use Rattle.transcript.specs.Transcript.{Entry, sends}
-use Rattle.transcript.specs.Content.{content, content_after, is_same_link, node_number, class_number, link_number, without_taken, on_link, put_on, place_taken}
+use Rattle.transcript.specs.Content.{given, content, content_after, is_same_link, node_number, class_number, link_number, without_taken, on_link, put_on, place_taken}
+use Rattle.std.specs.Option.{option_map}
+use Rattle.transcript.specs.Claims.{step_answer}
+use Rattle.dc_base.specs.declared.answers.Answer.TheVariants as answer
+use Rattle.dc_base.specs.declared.events.Event.TheVariants.{Step}
 use Rattle.transcript.proofs.Growing.{content-next}
 use Rattle.dc_world.specs.Links.{Links, on, with_flights, put_on_one, taken_out, moved}
 
@@ -145,3 +148,13 @@ same_link l k same =
     ap (λ n. record { from = n; to = l.to; class = l.class }) from
     ∙ ap (λ n. record { from = k.from; to = n; class = l.class }) to
     ∙ ap (λ n. record { from = k.from; to = k.to; class = n }) class
+
+-- a step takes the flight that stands there
+module _ (t : List Entry) (links : Links) (contents : (l : LinkId) → content l t ≡ on links l) (l : LinkId) (i : ℕ) (f : Flight) (at : slice_get (on links l) i ≡ Some f) where
+  -- if it is answered ok it gives it
+  pub step_given : (lines : List Line) → given t (record { event = Step l i; answer = answer.Ok; lines = lines }) ≡ Some (l, f)
+  step_given lines = ap (λ fs. option_map (λ f. (l, f)) (slice_get fs i)) (contents l) ∙ ap (option_map (λ f. (l, f))) at
+
+  -- the answer that is due is that to the flight
+  pub step_due : step_answer t l i (slice_get (content l t) i) ≡ step_answer t l i (Some f)
+  step_due = ap (λ fs. step_answer t l i (slice_get fs i)) (contents l) ∙ ap (step_answer t l i) at

@@ -1,11 +1,12 @@
 -- The two directions, and a bearer and direction that is the one named or another.
-use Rattle.std.proofs.Common.{ℕ, ◌≡◌, ◌⊎◌, ◌==◌, true, false, refl, sym, ap, ◌∙◌, inl, inr, subst}
-use Rattle.std.specs.Prelude.{◌&&◌}
+use Rattle.std.proofs.Common.{ℕ, ◌≡◌, ◌⊎◌, ◌==◌, true, false, refl, sym, ap, ◌∙◌, inl, inr, subst, List}
+use Rattle.std.specs.Prelude.{◌&&◌, Contains}
 use Rattle.std.proofs.lemmas.Bool.{cases_Bool, eqb-true, eqb-false}
 use Rattle.dc_base.specs.declared.nodes.Dir.{Dir}
 use Rattle.dc_base.specs.declared.nodes.Dir.TheVariants.{Ul, Dl}
 use Rattle.transcript.specs.Content.{direction}
-use Rattle.transcript.specs.Bearers.{is_same_dir}
+use Rattle.transcript.specs.Bearers.{Established, is_same_dir}
+use Rattle.transcript.proofs.Establishing.{IsOnce, same_bearer}
 use Rattle.dc_world.specs.Plane.{leg, other}
 
 -- a direction is this one or the other
@@ -61,3 +62,12 @@ not_named d id d' id' (inl turned) =
     let other' : is_same_dir d d' ≡ false = ap (is_same_dir d) turned ∙ other_dir d in
     elim (cases_Bool (id == id')) [ inl same ↦ rw (same, other') refl | inr apart ↦ rw apart refl ]
 not_named d id d' id' (inr apart) = rw apart refl
+
+-- what holds of a bearer in a direction, and of every other, holds of all
+pub each_bearer : (bs : List Established) → IsOnce bs → (b : Established) → Contains bs b → (d : Dir) (id : ℕ) → b.id ≡ id → (P : Established → Dir → Type 0) → P b d
+    → ((x : Established) (k : Dir) → Contains bs x → Apart d id k x.id → P x k) → (x : Established) (k : Dir) → Contains bs x → P x k
+each_bearer bs once b there d id named P here elsewhere x k at =
+    elim (parted d id k x.id) [
+      | inl it ↦ subst (λ y. P y k) (same_bearer bs b x once there at (named ∙ sym it.1)) (subst (P b) (sym it.0) here)
+      | inr apart ↦ elsewhere x k at apart
+    ]

@@ -1,11 +1,11 @@
 -- The run theorem: the transcript of every run meets the claims.
 use Rattle.std.proofs.Common.{ℕ, zero, suc, ◌≡◌, ◌+◌, ◌-◌, ◌^◌, ◌<◌, ◌≤◌, ◌==◌, ◌&&◌, ◌⊎◌, ◌++◌, List, [], ◌∷◌, Option, Some, None, Bool, true, false, length, slice_get, refl, sym, ap, ◌∙◌, subst, arith, inl, inr, append_assoc}
-use Rattle.std.specs.Prelude.{if◌then◌else◌, nat_lt, nat_le, not, is_some, Contains, Ok, Err, Result, replicate, slice_index_or, ⊤}
+use Rattle.std.specs.Prelude.{if◌then◌else◌, nat_lt, nat_le, not, is_some, Contains, Ok, Err, Result, replicate, slice_index_or}
 use Rattle.std.specs.List.{AllByRecursion, find}
 use Rattle.std.specs.Option.{option_map}
 use Rattle.std.proofs.lemmas.List.{append-nil, set-get_or}
-use Rattle.std.proofs.lemmas.Option.{same_Some, slice_get_within, slice_get_past}
-use Rattle.std.proofs.lemmas.Bool.{cases_Bool, cond_both, cond-true, cond-false, eqb-true}
+use Rattle.std.proofs.lemmas.Option.{same_Some}
+use Rattle.std.proofs.lemmas.Bool.{cases_Bool, cond_both, cond-true, cond-false}
 use Rattle.std.proofs.lemmas.Bool.Decides.{nat_tests}
 use Rattle.dc_base.specs.Count.{window}
 use Rattle.dc_base.specs.declared.numbers.SnLen.{SnLen}
@@ -37,19 +37,16 @@ use Rattle.pdcp_tx.specs.declared.tx.TxErr.{TxErr}
 use Rattle.pdcp_tx.specs.declared.tx.TxErr.TheVariants as refused
 use Rattle.transcript.specs.Transcript.{Entry}
 use Rattle.transcript.specs.Content.{content, link, link_number, all_links, first_loaded, mt_ctl, tm_ctl, place_taken}
-use Rattle.transcript.specs.Bearers.{Established, established, latest, open_command, unless_opening, is_opening, at_master, at_terminal, at_submitter, submitted, told}
-use Rattle.transcript.specs.Claims.{is_mm, is_ordered, is_tunnel, bearer_answer, submit_answer, step_answer, tunnel_answer, due_answer, HasCause, IsDataFlight, IsOneUse, IsFaithful}
+use Rattle.transcript.specs.Bearers.{Established, established, latest, open_command, unless_opening, is_opening, at_master, at_submitter, submitted, told}
+use Rattle.transcript.specs.Claims.{is_mm, is_ordered, is_tunnel, bearer_answer, submit_answer, step_answer, tunnel_answer, IsDataFlight, IsOneUse, IsFaithful}
 use Rattle.transcript.proofs.OnEach.{each_at}
 use Rattle.transcript.proofs.Establishing.{IsOnce, same_bearer, generation_there}
-use Rattle.dc_world.specs.Entities.{Entities, Table, bearer_in, with_bearer, no_bearers}
-use Rattle.dc_world.specs.Plane.{Outcome, leg, other, data_flight, numbered_as, air_taken, is_aged}
-use Rattle.dc_world.specs.Plane.{submitted as submitted_in}
+use Rattle.dc_world.specs.Entities.{Entities, Table, bearer_in, with_bearer}
+use Rattle.dc_world.specs.Plane.{Outcome, leg, other, numbered_as, air_taken, is_aged, submitted as submitted_in}
 use Rattle.dc_world.specs.Control.{Nodes, new_nodes, set_up, commanded, told_terminal, told_master, is_open}
-use Rattle.dc_world.specs.Links.{Links, on, moved, no_links, first_nonempty}
+use Rattle.dc_world.specs.Links.{on, moved, first_nonempty}
 use Rattle.dc_world.specs.Run.{WorldState, new_world, IsGood, is_built, unless_open, table_at, taken_from, stepped, tunnelled, tunnelled_at, decided, happen, entry_of, world_after, entries_from}
-use Rattle.dc_world.proofs.Lane.{low_is}
-use Rattle.dc_world.proofs.Sound.{or_fresh, half, sender_table, receiver_table, IsPduOf, IsAckOf, IsServed, IsTabled, Promise, Phase, idle, Happened, Sound}
-use Rattle.dc_world.proofs.Sound.{commanded as phase_commanded, answered as phase_answered}
+use Rattle.dc_world.proofs.Sound.{or_fresh, half, sender_table, receiver_table, IsPduOf, IsAckOf, Promise, Phase, idle, Happened, Sound, commanded as phase_commanded, answered as phase_answered}
 use Rattle.dc_world.proofs.Tables.{with_sender, with_receiver, is_established}
 use Rattle.dc_world.proofs.Assembly.{sound_next, served_told}
 use Rattle.dc_world.proofs.Refusing.{refused_happened}

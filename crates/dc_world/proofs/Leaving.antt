@@ -1,40 +1,31 @@
--- The links after a flight on the leg of a direction is taken away.
-use Rattle.std.proofs.Common.{ℕ, ◌≡◌, ◌+◌, ◌-◌, ◌<◌, ◌≤◌, ◌⊎◌, ◌==◌, ◌++◌, List, [], ◌∷◌, Option, Some, None, Bool, true, false, length, map, take, slice_get, refl, sym, ap, ◌∙◌, subst, arith, inl, inr}
-use Rattle.std.specs.Prelude.{Contains, Ok, nat_lt, is_some, ◌&&◌, if◌then◌else◌}
-use Rattle.std.specs.List.{AllByRecursion, flat_map, remove}
-use Rattle.std.specs.Option.{option_map}
+-- The links after a flight on the leg of a direction is sent, or taken away.
+use Rattle.std.proofs.Common.{◌∷◌, ℕ, ◌≡◌, ◌⊎◌, ◌++◌, List, [], Some, length, slice_get, refl, sym, ap, ◌∙◌, subst, inl, inr}
+use Rattle.std.specs.List.{remove}
 use Rattle.std.proofs.lemmas.List.{append-nil}
-use Rattle.std.proofs.lemmas.Option.{same_Some, none-some}
-use Rattle.std.proofs.lemmas.Bool.{cases_Bool, eqb-true, eq-eqb, le-ltb, ltb-false, ltb-true, and_from, and_cases, and_parts, true≢false, cond-true, cond-false}
-use Rattle.dc_base.specs.Count.{window, sn, count_for}
 use Rattle.dc_base.specs.declared.nodes.Dir.{Dir}
 use Rattle.dc_base.specs.declared.nodes.Dir.TheVariants.{Ul, Dl}
 use Rattle.dc_base.specs.declared.nodes.LinkId.{LinkId}
 use Rattle.dc_base.specs.declared.flights.Flight.{Flight}
-use Rattle.dc_base.specs.declared.flights.Flight.TheVariants as flight
-use Rattle.dc_base.specs.declared.answers.Answer.TheVariants as answer
-use Rattle.dc_base.specs.declared.answers.Refusal.TheVariants.{Aged}
-use Rattle.dc_base.specs.declared.events.Header.{Header}
-use Rattle.dc_base.specs.declared.events.Event.TheVariants.{Step}
 use Rattle.dc_base.specs.declared.events.Line.{Line}
-use Rattle.transcript.specs.Transcript.{Entry, sends, SomeEntry}
-use Rattle.transcript.specs.Content.{mt_ctl, tm_ctl, given, without_taken, put_on, on_link, reverse, direction}
-use Rattle.transcript.specs.Bearers.{Established, established, latest, is_latest, submission, submitted, ups, handed, numbered, confirmed, confirms, confirmed_by, tag_of, tags_sent, frees, is_same_dir, open_command, is_set}
-use Rattle.transcript.specs.Claims.{TakesData, IsDataFlight, IsProtected, Carried, IsReason, receiver, due_answer, step_answer, is_behind as is_behind_in, is_aged as is_aged_in}
-use Rattle.transcript.proofs.OnEach.{each_weaker}
-use Rattle.transcript.proofs.Growing.{SomeEntry-later, SomeEntry-last}
-use Rattle.dc_world.specs.Entities.{Entities, Table, bearer_in, with_bearer}
-use Rattle.dc_world.specs.Plane.{leg, other, ciphered, data_flight, taken_for, up_line, ack_line, air_taken, is_behind, is_aged}
-use Rattle.dc_world.specs.Control.{Nodes}
+use Rattle.transcript.specs.Content.{mt_ctl, tm_ctl, without_taken, put_on}
+use Rattle.transcript.specs.Bearers.{Established}
+use Rattle.dc_world.specs.Plane.{leg, other}
 use Rattle.dc_world.specs.Links.{Links, on, moved}
-use Rattle.dc_world.specs.Run.{WorldState}
-use Rattle.transcript.proofs.Establishing.{submitted-next, handed-next, confirmed-next, tags_sent-next, same_bearer, is_latest_once, is_generation_once}
-use Rattle.dc_world.proofs.Lane.{IsNumbered, IsLane, numbered_below, Received-only, put_below, found_by_sn, lane_put, lane_handed}
-use Rattle.dc_world.proofs.Sound.{half, or_fresh, sender_table, receiver_table, CarriesCount, IsUnderWay, IsPduOf, IsAckOf, PromiseOf, Phase, idle, commanded, answered, listed, IsServed, IsTabled, Happened, Sound}
-use Rattle.dc_world.proofs.Tables.{with_receiver, length-with_bearer, bearer_in-other, at_the_master, is_the_bearer, deliv_is}
+use Rattle.dc_world.proofs.Sound.{CarriesCount, IsUnderWay}
 use Rattle.dc_world.proofs.Contents.{on_moved}
 use Rattle.dc_world.proofs.Directions.{cases_dir}
 use Rattle.dc_world.proofs.Served.{under_way_left, under_way_but}
+use Rattle.dc_base.specs.declared.events.Line.TheVariants as line
+
+-- what is sent on a leg is no command
+pub no_command : (d : Dir) (f : Flight) → put_on mt_ctl (line.Send (leg d) f ∷ []) ≡ []
+no_command Dl f = refl
+no_command Ul f = refl
+
+-- and answers none
+pub no_completion : (d : Dir) (f : Flight) → put_on tm_ctl (line.Send (leg d) f ∷ []) ≡ []
+no_completion Dl f = refl
+no_completion Ul f = refl
 
 module _ (links : Links) (long : length links ≡ 64) (d : Dir) (i : ℕ) (f : Flight) (at : slice_get (on links (leg d)) i ≡ Some f) (lines : List Line) where
   -- what stands on a link then

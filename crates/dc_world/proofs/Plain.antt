@@ -1,29 +1,20 @@
 -- An entry that draws no generation: the plans and bearers are as before, and where it ends no command and sets nothing up, so is all that the nodes follow.
-use Rattle.std.proofs.Common.{ℕ, zero, suc, ◌≡◌, ◌+◌, ◌-◌, ◌<◌, ◌≤◌, ◌⊎◌, ◌==◌, ◌++◌, List, [], ◌∷◌, Option, Some, None, Bool, false, length, take, slice_get, refl, sym, ap, ◌∙◌, subst, arith, inl, inr}
-use Rattle.std.specs.Prelude.{if◌then◌else◌, fold, is_some, Contains, nat_lt}
+use Rattle.std.proofs.Common.{ℕ, ◌≡◌, ◌+◌, ◌++◌, List, [], ◌∷◌, Option, Some, None, Bool, false, refl, sym, ap, ◌∙◌, subst, arith}
+use Rattle.std.specs.Prelude.{if◌then◌else◌, fold, is_some, Contains}
 use Rattle.std.specs.List.{flat_map}
 use Rattle.std.specs.Option.{option_map}
-use Rattle.std.proofs.lemmas.List.{append-nil, take-append-le}
-use Rattle.std.proofs.lemmas.Bool.{cases_Bool, eqb-true}
-use Rattle.std.proofs.lemmas.Bool.Decides.{nat_tests}
+use Rattle.std.proofs.lemmas.List.{append-nil}
 use Rattle.dc_base.specs.declared.nodes.Dir.{Dir}
 use Rattle.dc_base.specs.declared.nodes.Dir.TheVariants.{Ul, Dl}
-use Rattle.dc_base.specs.declared.flights.Flight.{Flight}
 use Rattle.dc_base.specs.declared.events.Header.{Header}
-use Rattle.pdcp_rx.specs.Receiver.{Received}
-use Rattle.transcript.specs.Transcript.{Entry, sends}
+use Rattle.transcript.specs.Transcript.{Entry}
 use Rattle.transcript.specs.Content.{mt_ctl, tm_ctl}
-use Rattle.transcript.specs.Bearers.{Established, established, established_by, latest, generation, is_draw, plan_of, plans, ends_command, open_command, has_after, is_set, at_terminal, key_in, is_latest, submission, submitted, up_of, ups, handed, numbered, freed_of, frees, confirms, confirmed, tag_of, tags_sent}
-use Rattle.transcript.specs.Claims.{TakesData}
-use Rattle.transcript.proofs.Growing.{SomeEntry-later}
-use Rattle.dc_world.specs.Entities.{Entities, Table, bearer_in, with_bearer}
-use Rattle.dc_world.specs.Plane.{leg, other}
+use Rattle.transcript.specs.Bearers.{Established, established, established_by, latest, generation, is_draw, plan_of, plans, ends_command, open_command, has_after, is_set, at_terminal, key_in, submission}
+use Rattle.dc_world.specs.Entities.{Entities, bearer_in}
 use Rattle.dc_world.specs.Control.{Nodes}
 use Rattle.dc_world.specs.Links.{Links, on}
-use Rattle.transcript.proofs.Establishing.{IsOnce, submitted-next, handed-next, confirmed-next, tags_sent-next, plans-next, established-next, generation-next, open_command-next, is_set-next}
-use Rattle.dc_world.proofs.Lane.{IsLane, IsNumbered, IsNumbered-later}
-use Rattle.dc_world.proofs.Tables.{bearer_in-same, bearer_in-other, length-with_bearer, with_sender}
-use Rattle.dc_world.proofs.Sound.{or_fresh, half, sender_table, receiver_table, IsUnderWay, AllConfigured, Phase, listed, IsServed, IsTabled, Grows}
+use Rattle.transcript.proofs.Establishing.{IsOnce, submitted-next, plans-next, generation-next, open_command-next, is_set-next}
+use Rattle.dc_world.proofs.Sound.{AllConfigured, Phase, IsTabled}
 use Rattle.dc_world.proofs.Sound.Phase.{idle, commanded, answered}
 use Rattle.dc_world.proofs.Tables.{Keeps}
 
@@ -79,6 +70,11 @@ module _ (t : List Entry) (e : Entry) (plain : IsPlain e) where
 
 -- ---- with nodes that keep their bearers
 
+-- a place with no bearer has no entities
+pub none_mapped : (x : Option Entities) → option_map (λ e. e.bearer) x ≡ None → x ≡ None
+none_mapped None is = refl
+none_mapped (Some x) is = absurd cc
+
 module _ (t : List Entry) (e : Entry) (plain : IsPlain e) (s s' : Nodes) (keeps : Keeps s s') where
   -- one is there where the other is
   some_mapped : (o p : Option Entities) → option_map (λ e. e.bearer) p ≡ option_map (λ e. e.bearer) o → is_some o ≡ is_some p
@@ -101,11 +97,6 @@ module _ (t : List Entry) (e : Entry) (plain : IsPlain e) (s s' : Nodes) (keeps 
     ranged = λ b there. was.ranged b (there_before t e plain.undrawn b there);
     keyed = λ b there. ap (key_in b.g b.id) (plans_same t e plain.undrawn) ∙ was.keyed b (there_before t e plain.undrawn b there);
   }
-
-  -- an identity with no bearer has no entities
-  none_mapped : (x : Option Entities) → option_map (λ e. e.bearer) x ≡ None → x ≡ None
-  none_mapped None is = refl
-  none_mapped (Some x) is = absurd (cc)
 
   -- a bearer that the terminal lacks then was lacking
   none_before : (k : ℕ) → bearer_in s'.terminal k ≡ None → bearer_in s.terminal k ≡ None

@@ -1,11 +1,10 @@
 -- A data PDU is taken, or is aged.
-use Rattle.std.proofs.Common.{ℕ, ◌≡◌, ◌+◌, ◌-◌, ◌<◌, ◌≤◌, ◌⊎◌, ◌==◌, ◌++◌, List, [], ◌∷◌, Option, Some, None, Bool, true, false, length, map, take, slice_get, refl, sym, ap, ◌∙◌, subst, arith, inl, inr}
-use Rattle.std.specs.Prelude.{Contains, Ok, nat_lt, is_some, ◌&&◌, if◌then◌else◌}
-use Rattle.std.specs.List.{AllByRecursion, flat_map, remove}
-use Rattle.std.specs.Option.{option_map}
+use Rattle.std.proofs.Common.{ℕ, ◌≡◌, ◌+◌, ◌-◌, ◌<◌, ◌≤◌, ◌⊎◌, ◌==◌, ◌++◌, List, [], ◌∷◌, Option, Some, true, false, length, map, take, slice_get, refl, sym, ap, ◌∙◌, subst, arith, inl, inr}
+use Rattle.std.specs.Prelude.{Contains, nat_lt, ◌&&◌, if◌then◌else◌}
+use Rattle.std.specs.List.{AllByRecursion, flat_map}
 use Rattle.std.proofs.lemmas.List.{append-nil}
-use Rattle.std.proofs.lemmas.Option.{same_Some, none-some}
-use Rattle.std.proofs.lemmas.Bool.{cases_Bool, eqb-true, eq-eqb, le-ltb, ltb-false, ltb-true, and_from, and_cases, and_parts, true≢false, cond-true, cond-false}
+use Rattle.std.proofs.lemmas.Option.{same_Some}
+use Rattle.std.proofs.lemmas.Bool.{eq-eqb, ltb-false, ltb-true, and_from, cond-true, cond-false}
 use Rattle.dc_base.specs.Count.{window, sn, count_for}
 use Rattle.dc_base.specs.declared.nodes.Dir.{Dir}
 use Rattle.dc_base.specs.declared.nodes.Dir.TheVariants.{Ul, Dl}
@@ -19,13 +18,12 @@ use Rattle.dc_base.specs.declared.events.Event.TheVariants.{Step}
 use Rattle.dc_base.specs.declared.events.Line.{Line}
 use Rattle.pdcp_pdu.specs.DataPdu.{IsPayload, data_pdu}
 use Rattle.pdcp_rx.specs.declared.entity.RxParts.{RxParts}
-use Rattle.pdcp_rx.specs.Run.{IsConsecutive}
 use Rattle.pdcp_rx.specs.Receiver.{put, handed_of, Received}
 use Rattle.pdcp_rx.proofs.Laws.{Received-put, Received-put_same, handed_consecutive}
 use Rattle.pdcp_tx.specs.Sender.{Sender, low}
 use Rattle.transcript.specs.Transcript.{Entry, sends, SomeEntry}
-use Rattle.transcript.specs.Content.{mt_ctl, tm_ctl, given, without_taken, put_on, on_link, reverse, direction}
-use Rattle.transcript.specs.Bearers.{Established, established, latest, is_latest, submission, submitted, ups, handed, numbered, confirmed, confirms, confirmed_by, tag_of, tags_sent, frees, is_same_dir, open_command, is_set}
+use Rattle.transcript.specs.Content.{mt_ctl, tm_ctl, given, put_on, on_link, reverse, direction}
+use Rattle.transcript.specs.Bearers.{Established, established, latest, submitted, ups, handed, numbered, confirmed, confirms, confirmed_by, tag_of, tags_sent, frees, is_same_dir}
 use Rattle.transcript.specs.Claims.{TakesData, IsDataFlight, IsProtected, Carried, IsReason, receiver, due_answer, step_answer, is_behind as is_behind_in, is_aged as is_aged_in}
 use Rattle.transcript.proofs.OnEach.{each_weaker}
 use Rattle.transcript.proofs.Growing.{SomeEntry-later, SomeEntry-last}
@@ -36,55 +34,18 @@ use Rattle.dc_world.specs.Links.{Links, on, moved}
 use Rattle.dc_world.specs.Run.{WorldState}
 use Rattle.transcript.proofs.Establishing.{submitted-next, handed-next, confirmed-next, tags_sent-next, same_bearer, is_latest_once, is_generation_once}
 use Rattle.dc_world.proofs.Lane.{IsNumbered, IsLane, numbered_below, Received-only, put_below, found_by_sn, lane_put, lane_handed}
-use Rattle.dc_world.proofs.Sound.{half, or_fresh, sender_table, receiver_table, CarriesCount, IsUnderWay, IsPduOf, IsAckOf, PromiseOf, Phase, idle, commanded, answered, listed, IsServed, IsTabled, Happened, Sound}
-use Rattle.dc_world.proofs.Tables.{with_receiver, length-with_bearer, bearer_in-other, at_the_master, is_the_bearer, deliv_is}
-use Rattle.dc_world.proofs.Directions.{Apart, parted, same_dir, direction_leg, not_apart, not_named}
-use Rattle.dc_world.proofs.Tables.{Keeps, receiver_put, receiver_put_same, receiver_put_here, receiver_put_apart, keeps_all, keeps_receiver}
+use Rattle.dc_world.proofs.Sound.{half, or_fresh, sender_table, receiver_table, CarriesCount, IsUnderWay, IsPduOf, IsAckOf, PromiseOf, listed, IsServed, Happened, Sound}
+use Rattle.dc_world.proofs.Tables.{with_receiver, deliv_is, Keeps, receiver_put, receiver_put_same, receiver_put_here, receiver_put_apart, keeps_all, keeps_receiver}
+use Rattle.dc_world.proofs.Directions.{each_bearer, Apart, same_dir, direction_leg, not_apart, not_named}
 use Rattle.dc_world.proofs.Plain.{IsPlain, there_then, there_before, tabled_same, phase_same}
 use Rattle.dc_world.proofs.Served.{lane_same, served_still}
 use Rattle.dc_world.proofs.Silent.{no_ups, no_frees, no_move, none_carried, none_sent_still, grows_next, IsSilent, plain_happened}
-use Rattle.dc_world.proofs.Leaving.{flying_after, control_down, control_up}
+use Rattle.dc_world.proofs.Contents.{step_given, step_due}
+use Rattle.dc_world.proofs.Leaving.{no_command, no_completion, flying_after, control_down, control_up}
 use Rattle.dc_world.proofs.Upwards.{sends_after_ups, ups_here, ups_elsewhere, frees_after_ups, has_after_ups, command_after_ups}
-use Rattle.dc_world.proofs.Contents.{on_moved}
 use Rattle.dc_world.proofs.Taking.{taken_data, is_data_flight}
-
--- ---- the receiver
-
--- no bearer of a submission is missing at the terminal
-not_missing : (h : Header) (t : List Entry) (s : Nodes) (links : Links) → Phase h t s links
-    → (d : Dir) (b : Established) → Contains (established t) b → (e : ℕ × List ℕ) → IsNumbered b.first (submitted b d t) e → bearer_in s.terminal b.id ≡ None → ⊥
-not_missing h t s links phase d b there e sub none =
-    elim phase [
-      | idle free no_down no_up all ↦ all b there none
-      | commanded x in_t shape threshold policy open' plan no_up unused absent only ↦
-          let same : b ≡ x = only b there none in
-          let empty : submitted b d t ≡ [] = subst (λ y. submitted y d t ≡ []) (sym same) (unused d) in
-          none-some e.1 (ap (λ xs. slice_get xs (e.0 - b.first)) (sym empty) ∙ sub.payload)
-      | answered x in_t open' no_down done all ↦ all b there none
-    ]
-
--- the receiver of a submitted PDU has its bearer
-receiver_has : (h : Header) (t : List Entry) (s : Nodes) (links : Links) → IsTabled t s → Phase h t s links
-    → (d : Dir) (b : Established) → Contains (established t) b → (e : ℕ × List ℕ) → IsNumbered b.first (submitted b d t) e
-    → (r : Entities) × (bearer_in (receiver_table d s) b.id ≡ Some r) × (r.bearer ≡ b)
-receiver_has h t s links tables phase Ul b there e sub = at_the_master t s tables b there
-receiver_has h t s links tables phase Dl b there e sub = found (bearer_in s.terminal b.id) refl
-  where
-    found : (o : Option Entities) → bearer_in s.terminal b.id ≡ o → (r : Entities) × (bearer_in s.terminal b.id ≡ Some r) × (r.bearer ≡ b)
-    found None is = absurd (not_missing h t s links phase Dl b there e sub is)
-    found (Some r) is = (r, is, is_the_bearer t s tables Ul b r there is)
-
--- ---- lists
-
--- consecutive COUNTs are not below the first
-consecutive_from : (a c : ℕ) (es : List (ℕ × List ℕ)) → a ≤ c → IsConsecutive c es → AllByRecursion (λ u. a ≤ u.0) es
-consecutive_from a c [] le run = tt
-consecutive_from a c (e ∷ es) le run = (omega (arith, run.0), consecutive_from a (c + 1) es (omega arith) run.1)
-
--- two facts of each element are one
-each_both : {X : Type 0} (P Q : X → Type 0) (xs : List X) → AllByRecursion P xs → AllByRecursion Q xs → AllByRecursion (λ x. P x × Q x) xs
-each_both P Q [] all more = tt
-each_both P Q (x ∷ xs) all more = ((all.0, more.0), each_both P Q xs all.1 more.1)
+use Rattle.dc_world.proofs.Lists.{consecutive_from, each_both}
+use Rattle.dc_world.proofs.Having.{receiver_has}
 
 -- ---- one flight of a submission
 
@@ -131,12 +92,12 @@ module _ (h : Header) (policies : ℕ) (t : List Entry) (w : WorldState) (sound 
 
   -- a step that is answered ok gives it
   given_is : (lines : List Line) → given t (record { event = Step (leg d) i; answer = answer.Ok; lines = lines }) ≡ Some (leg d, f)
-  given_is lines = ap (λ fs. option_map (λ f. (leg d, f)) (slice_get fs i)) (sound.contents (leg d)) ∙ ap (option_map (λ f. (leg d, f))) at
+  given_is = step_given t w.links sound.contents (leg d) i f at
 
   -- the answer that is due
   due_is : due_answer policies t (Step (leg d) i) ≡ (if nat_lt (c + window b.n) r.rx.deliv then answer.No Aged else answer.Ok)
   due_is =
-      ap (λ fs. step_answer t (leg d) i (slice_get fs i)) (sound.contents (leg d)) ∙ ap (step_answer t (leg d) i) at
+      step_due t w.links sound.contents (leg d) i f at
       ∙ unordered d ∙ ap (λ x. if x then answer.No Aged else answer.Ok) aged_claim
     where
       unordered : (k : Dir) → step_answer t (leg k) i (Some f) ≡ (if is_aged_in t (leg k, f) then answer.No Aged else answer.Ok)
@@ -304,19 +265,11 @@ module _ (h : Header) (policies : ℕ) (t : List Entry) (w : WorldState) (sound 
 
   -- nothing is put on the control link to the terminal
   no_control_down : put_on mt_ctl lines ≡ []
-  no_control_down = ap (λ ss. flat_map (on_link mt_ctl) ss) sends_are ∙ apart d
-    where
-      apart : (k : Dir) → flat_map (on_link mt_ctl) ((leg (other k), flight.Ack b.id b.g num) ∷ []) ≡ []
-      apart Ul = refl
-      apart Dl = refl
+  no_control_down = ap (λ ss. flat_map (on_link mt_ctl) ss) sends_are ∙ no_command (other d) (flight.Ack b.id b.g num)
 
   -- nor on that to the master
   no_control_up : put_on tm_ctl lines ≡ []
-  no_control_up = ap (λ ss. flat_map (on_link tm_ctl) ss) sends_are ∙ apart d
-    where
-      apart : (k : Dir) → flat_map (on_link tm_ctl) ((leg (other k), flight.Ack b.id b.g num) ∷ []) ≡ []
-      apart Ul = refl
-      apart Dl = refl
+  no_control_up = ap (λ ss. flat_map (on_link tm_ctl) ss) sends_are ∙ no_completion (other d) (flight.Ack b.id b.g num)
 
   -- ---- its bearer
 
@@ -387,11 +340,7 @@ module _ (h : Header) (policies : ℕ) (t : List Entry) (w : WorldState) (sound 
   -- what holds of the bearer in its direction, and of every other, holds of all
   all_from : (P : Established → Dir → Type 0) → P b d → ((x : Established) (k : Dir) → Contains (established t) x → Apart d b.id k x.id → P x k)
       → (x : Established) (k : Dir) → Contains (established t) x → P x k
-  all_from P here elsewhere x k in_t =
-      elim (parted d b.id k x.id) [
-        | inl it ↦ subst (λ y. P y k) (same_bearer (established t) b x sound.tables.once there in_t (sym it.1)) (subst (P b) (sym it.0) here)
-        | inr apart ↦ elsewhere x k in_t apart
-      ]
+  all_from = each_bearer (established t) sound.tables.once b there d b.id refl
 
   -- each payload that goes up came
   run_came : AllByRecursion (λ u. SomeEntry (TakesData b d u.0) t') run

@@ -1,29 +1,19 @@
 -- A refused event keeps everything.
-use Rattle.std.proofs.Common.{ℕ, ◌≡◌, ◌+◌, ◌<◌, ◌++◌, List, [], ◌∷◌, Option, Some, None, Bool, true, false, length, refl, sym, ap, ◌∙◌, subst, arith, inl, inr}
-use Rattle.std.specs.Prelude.{if◌then◌else◌, nat_lt, Contains, fold}
-use Rattle.std.specs.List.{AllByRecursion, flat_map}
-use Rattle.std.proofs.lemmas.List.{append-nil}
-use Rattle.std.proofs.lemmas.Bool.Decides.{nat_tests}
-use Rattle.std.proofs.lemmas.Bool.{cases_Bool}
+use Rattle.std.proofs.Common.{ℕ, ◌≡◌, List, [], None, Bool, false, refl, sym, ap, subst, inr}
 use Rattle.dc_base.specs.declared.nodes.Dir.{Dir}
 use Rattle.dc_base.specs.declared.nodes.Dir.TheVariants.{Ul, Dl}
 use Rattle.dc_base.specs.declared.answers.Answer.TheVariants.{No}
 use Rattle.dc_base.specs.declared.answers.Refusal.{Refusal}
 use Rattle.dc_base.specs.declared.events.Header.{Header}
 use Rattle.dc_base.specs.declared.events.Event.{Event}
-use Rattle.pdcp_tx.specs.Sender.{low}
-use Rattle.transcript.specs.Transcript.{Entry, SomeEntry}
+use Rattle.transcript.specs.Transcript.{Entry}
 use Rattle.transcript.specs.Content.{mt_ctl, tm_ctl, given_at, place_taken}
-use Rattle.transcript.specs.Bearers.{Established, established, established_by, generation, plan_of, plan_drawn, is_draw, is_draw_of, plans, latest, is_latest, frees, submission_of, submission, submitted, ups, confirms, confirmed_by, tags_sent, command_after, ends_command, open_command, is_set, has_after, at_terminal, key_in, master_key}
-use Rattle.transcript.specs.Claims.{TakesData, HasCause}
-use Rattle.transcript.proofs.Establishing.{established-next, generation-next, open_command-next, is_set-next, plans-next, submitted-next, tags_sent-next, IsOnce}
-use Rattle.dc_world.specs.Entities.{bearer_in}
+use Rattle.transcript.specs.Bearers.{Established, plan_of, is_draw_of, is_latest, submission_of, confirms, confirmed_by}
+use Rattle.transcript.specs.Claims.{HasCause}
 use Rattle.dc_world.specs.Plane.{leg}
-use Rattle.dc_world.specs.Control.{Nodes}
-use Rattle.dc_world.specs.Links.{Links, on, moved}
+use Rattle.dc_world.specs.Links.{on, moved}
 use Rattle.dc_world.specs.Run.{WorldState}
-use Rattle.dc_world.proofs.Lane.{IsNumbered}
-use Rattle.dc_world.proofs.Sound.{half, sender_table, receiver_table, IsUnderWay, IsServed, IsTabled, Phase, idle, commanded, answered, Grows, NoneSent, Happened, Sound}
+use Rattle.dc_world.proofs.Sound.{IsUnderWay, Happened, Sound}
 use Rattle.dc_world.proofs.Tables.{keeps_all}
 use Rattle.dc_world.proofs.Silent.{IsSilent, no_ups, no_frees, plain_happened}
 

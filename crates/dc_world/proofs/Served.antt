@@ -1,34 +1,24 @@
 -- A bearer that is served is so after an entry; and what is under way.
-use Rattle.std.proofs.Common.{ℕ, zero, suc, ◌≡◌, ◌+◌, ◌-◌, ◌<◌, ◌≤◌, ◌⊎◌, ◌==◌, ◌++◌, true, false, Bool, List, [], ◌∷◌, Option, Some, None, length, map, take, slice_get, refl, sym, ap, ◌∙◌, subst, arith, inl, inr}
-use Rattle.std.specs.Prelude.{if◌then◌else◌, ◌&&◌, fold, is_some, Contains}
+use Rattle.std.proofs.Common.{ℕ, zero, suc, ◌≡◌, ◌-◌, ◌<◌, ◌≤◌, ◌⊎◌, ◌++◌, List, [], ◌∷◌, Some, take, slice_get, refl, sym, ap, ◌∙◌, subst, arith, inl, inr}
 use Rattle.std.specs.List.{flat_map, remove}
-use Rattle.std.specs.Option.{option_map}
-use Rattle.std.proofs.lemmas.List.{append-nil}
+use Rattle.std.proofs.lemmas.List.{append-nil, take-append-le}
 use Rattle.std.proofs.lemmas.Option.{same_Some}
-use Rattle.std.proofs.lemmas.Bool.{cases_Bool, eqb-true}
 use Rattle.dc_base.specs.declared.numbers.SnLen.{SnLen}
 use Rattle.dc_base.specs.declared.nodes.Dir.{Dir}
-use Rattle.dc_base.specs.declared.nodes.Dir.TheVariants.{Ul, Dl}
 use Rattle.dc_base.specs.declared.flights.Flight.{Flight}
-use Rattle.dc_base.specs.declared.events.Header.{Header}
-use Rattle.dc_base.specs.declared.events.Line.{Line}
 use Rattle.pdcp_tx.specs.Sender.{Sender}
 use Rattle.pdcp_rx.specs.declared.entity.RxParts.{RxParts}
 use Rattle.pdcp_rx.specs.Receiver.{Received}
 use Rattle.transcript.specs.Transcript.{Entry, sends}
-use Rattle.transcript.specs.Content.{mt_ctl, tm_ctl}
-use Rattle.transcript.specs.Bearers.{Established, established, established_by, latest, generation, is_draw, plans, plan_of, key_in, submission, submitted, ups, up_of, handed, numbered, confirmed, confirms, tag_of, tags_sent, freed_of, is_same_dir, ends_command, command_after, open_command, has_after, is_set}
+use Rattle.transcript.specs.Bearers.{Established, submission, submitted, ups, handed, numbered, confirmed, confirms, tag_of, tags_sent}
 use Rattle.transcript.specs.Claims.{TakesData}
 use Rattle.transcript.proofs.Growing.{SomeEntry-later}
-use Rattle.dc_world.specs.Entities.{Entities, Table, bearer_in, with_bearer}
-use Rattle.dc_world.specs.Plane.{leg, other, up_line}
+use Rattle.dc_world.specs.Plane.{leg}
 use Rattle.dc_world.specs.Control.{Nodes}
 use Rattle.dc_world.specs.Links.{Links, on}
-use Rattle.transcript.proofs.Establishing.{IsOnce, submitted-next, handed-next, confirmed-next, tags_sent-next, plans-next, generation-next, open_command-next, is_set-next}
+use Rattle.transcript.proofs.Establishing.{submitted-next, handed-next, confirmed-next, tags_sent-next}
 use Rattle.dc_world.proofs.Lane.{IsLane}
-use Rattle.dc_world.proofs.Sound.{half, sender_table, receiver_table, CarriesCount, IsUnderWay, Phase, idle, commanded, answered, listed, IsServed, IsTabled}
-use Rattle.dc_world.proofs.Tables.{bearer_in-same, bearer_in-other, with_receiver}
-use Rattle.std.proofs.lemmas.List.{take-append-le}
+use Rattle.dc_world.proofs.Sound.{half, sender_table, receiver_table, CarriesCount, IsUnderWay, listed, IsServed}
 
 -- ---- what is under way
 
@@ -57,6 +47,7 @@ lane_same n first xs xs' cs cs' tx tx' sent sent' rx rx' x c s q r lane =
     subst (λ a. IsLane n first a cs' tx' sent' rx') (sym x) (subst (λ a. IsLane n first xs a tx' sent' rx') (sym c)
     (subst (λ a. IsLane n first xs cs a sent' rx') (sym s) (subst (λ a. IsLane n first xs cs tx a rx') (sym q)
     (subst (λ a. IsLane n first xs cs tx sent a) (sym r) lane))))
+
 module _ (t : List Entry) (s : Nodes) (links : Links) (b : Established) (d : Dir) (e : Entry) (s' : Nodes) (links' : Links) (was : IsServed t s links b d) (no_ups : ups b d t e ≡ [])
     (rx : (half b (receiver_table d s')).rx ≡ (half b (receiver_table d s)).rx) where
   -- the bearer is served where nothing goes up, with what the entry tells of what is sent

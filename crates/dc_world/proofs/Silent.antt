@@ -1,41 +1,30 @@
 -- What an entry keeps that carries no data.
-use Rattle.std.proofs.Common.{◌==◌, ℕ, ◌≡◌, ◌+◌, ◌-◌, ◌^◌, ◌<◌, ◌≤◌, ◌++◌, List, [], ◌∷◌, Some, length, take, slice_get, refl, sym, ap, ◌∙◌, subst, arith, inl, inr, append-nil, Bool, true, false}
+use Rattle.std.proofs.Common.{ℕ, ◌≡◌, ◌+◌, ◌≤◌, ◌++◌, List, [], ◌∷◌, length, refl, sym, ap, ◌∙◌, subst, arith, inl, inr, append-nil, ◌⊎◌}
 use Rattle.std.specs.Prelude.{if◌then◌else◌, nat_lt, Contains}
-use Rattle.std.specs.List.{list_any, AllByRecursion, flat_map}
-use Rattle.std.proofs.Math.Seq.{take-nil}
-use Rattle.std.proofs.lemmas.Option.{slice_get_past}
-use Rattle.std.proofs.lemmas.Bool.{cond-false, le-ltb}
+use Rattle.std.specs.List.{AllByRecursion, flat_map}
+use Rattle.std.proofs.lemmas.Bool.{cond-false, le-ltb, cases_Bool}
 use Rattle.dc_base.specs.declared.nodes.Dir.{Dir}
 use Rattle.dc_base.specs.declared.nodes.LinkId.{LinkId}
-use Rattle.pdcp_tx.specs.Sender.{Sender, Entry as Kept, low, least, Rises}
-use Rattle.pdcp_rx.specs.declared.entity.RxParts.{RxParts}
-use Rattle.pdcp_rx.specs.Entries.{AscendFrom}
+use Rattle.pdcp_tx.specs.Sender.{low}
 use Rattle.pdcp_rx.specs.Receiver.{Received}
 use Rattle.transcript.specs.Transcript.{Entry, sends, SomeEntry}
-use Rattle.transcript.specs.Bearers.{Established, established, generation, submission, submitted, ups, handed, numbered, confirms, confirmed, tag_of, tags_sent, frees, established_by, plans, plan_drawn, is_draw}
-use Rattle.transcript.specs.Claims.{TakesData, Carried}
-use Rattle.dc_world.specs.Entities.{fresh}
+use Rattle.transcript.specs.Bearers.{Established, established, generation, submission, submitted, ups, handed, confirms, confirmed, tag_of, tags_sent, frees, up_of, freed_of, is_latest}
+use Rattle.transcript.specs.Claims.{TakesData, Carried, IsDataFlight, IsProtected, IsReason, HasCause}
 use Rattle.dc_world.specs.Plane.{leg}
 use Rattle.dc_world.specs.Control.{Nodes}
-use Rattle.dc_world.specs.Links.{Links}
-use Rattle.transcript.proofs.Establishing.{confirmed-next, submitted-next, handed-next, tags_sent-next, generation-next, established-next, plans-next}
-use Rattle.dc_world.proofs.Lane.{IsNumbered, IsLane, IsNumbered-later}
-use Rattle.dc_world.proofs.Sound.{half, sender_table, receiver_table, listed, IsServed, Grows, NoneSent}
-use Rattle.std.proofs.lemmas.Bool.{cases_Bool}
+use Rattle.dc_world.specs.Links.{Links, on, moved}
+use Rattle.transcript.proofs.Establishing.{confirmed-next, submitted-next, handed-next, tags_sent-next, generation-next}
+use Rattle.dc_world.proofs.Lane.{IsNumbered, IsNumbered-later}
+use Rattle.dc_world.proofs.Sound.{half, sender_table, receiver_table, Grows, NoneSent, IsUnderWay, IsTabled, Phase, PromiseOf, Happened, Sound}
 use Rattle.transcript.specs.Content.{mt_ctl, tm_ctl, place_taken}
-use Rattle.transcript.specs.Claims.{IsDataFlight, IsProtected, IsReason, HasCause}
 use Rattle.dc_base.specs.declared.events.Header.{Header}
 use Rattle.dc_base.specs.declared.flights.Flight.{Flight}
-use Rattle.transcript.specs.Bearers.{up_of, freed_of, is_latest}
 use Rattle.dc_base.specs.declared.nodes.Dir.TheVariants.{Ul, Dl}
-use Rattle.std.proofs.Common.{◌⊎◌}
 use Rattle.dc_world.specs.Entities.{Entities}
-use Rattle.dc_world.specs.Links.{on, moved}
 use Rattle.dc_world.specs.Run.{WorldState}
 use Rattle.dc_world.proofs.Tables.{Keeps}
 use Rattle.dc_world.proofs.Plain.{IsUndrawn, IsPlain, there_then, there_before, tabled_same, phase_same}
 use Rattle.dc_world.proofs.Served.{served_still}
-use Rattle.dc_world.proofs.Sound.{IsUnderWay, IsTabled, Phase, PromiseOf, Happened, Sound}
 
 -- ---- what an entry does not say
 

@@ -1,11 +1,11 @@
 -- A payload is submitted and taken.
 use Rattle.std.proofs.Common.{ℕ, zero, suc, ◌≡◌, ◌+◌, ◌-◌, ◌^◌, ◌<◌, ◌≤◌, ◌⊎◌, ◌==◌, ◌++◌, List, [], ◌∷◌, Some, None, true, false, length, slice_get, refl, sym, ap, ◌∙◌, subst, arith, inl, inr}
-use Rattle.std.specs.Prelude.{Contains, Ok, nat_le, nat_lt, if◌then◌else◌}
-use Rattle.std.specs.List.{AllByRecursion, flat_map}
+use Rattle.std.specs.Prelude.{Contains, Ok, nat_le, if◌then◌else◌}
+use Rattle.std.specs.List.{flat_map}
 use Rattle.std.proofs.lemmas.List.{append-nil, length_push}
 use Rattle.std.proofs.lemmas.List.FromFn.{length-range_with_len}
 use Rattle.std.proofs.lemmas.Option.{none-some}
-use Rattle.std.proofs.lemmas.Bool.{cases_Bool, cases_lt, eqb-true, eqb-false, eq-eqb, ne_eqb, leb-false, cond-false, cond-true}
+use Rattle.std.proofs.lemmas.Bool.{cases_Bool, cases_lt, eqb-true, eq-eqb, ne_eqb, cond-false, cond-true}
 use Rattle.std.proofs.lemmas.Bool.Decides.{nat_tests}
 use Rattle.dc_base.specs.Count.{window, sn}
 use Rattle.dc_base.specs.declared.nodes.Dir.{Dir}
@@ -17,15 +17,13 @@ use Rattle.dc_base.specs.declared.events.Header.{Header}
 use Rattle.dc_base.specs.declared.events.Event.TheVariants.{Submit}
 use Rattle.dc_base.specs.declared.events.Line.TheVariants as line
 use Rattle.pdcp_pdu.specs.DataPdu.{IsPayload, data_pdu}
-use Rattle.pdcp_tx.specs.Sender.{Sender, least, low}
-use Rattle.pdcp_tx.specs.Sender.{Entry as Kept}
+use Rattle.pdcp_tx.specs.Sender.{Sender, low}
 use Rattle.pdcp_tx.specs.Sending.{taken}
-use Rattle.pdcp_rx.specs.declared.entity.RxParts.{RxParts}
 use Rattle.pdcp_rx.specs.Receiver.{Received}
-use Rattle.transcript.specs.Transcript.{Entry, sends, SomeEntry}
-use Rattle.transcript.specs.Content.{mt_ctl, tm_ctl, put_on, direction, is_same_link}
+use Rattle.transcript.specs.Transcript.{Entry, sends}
+use Rattle.transcript.specs.Content.{mt_ctl, tm_ctl, put_on, is_same_link}
 use Rattle.transcript.specs.Bearers.{Established, established, latest, generation, is_same_dir, submission, submitted, confirms, confirmed, tag_of, told, open_command, at_submitter, unless_opening, master_key, key_in}
-use Rattle.transcript.specs.Claims.{TakesData, Protects, ProtectsSubmission, IsLicensed, submit_answer}
+use Rattle.transcript.specs.Claims.{Protects, ProtectsSubmission, IsLicensed, submit_answer}
 use Rattle.dc_world.specs.Entities.{Entities, bearer_in, with_bearer}
 use Rattle.dc_world.specs.Plane.{leg, other, ciphered, data_flight}
 use Rattle.dc_world.specs.Control.{Nodes}
@@ -35,47 +33,15 @@ use Rattle.transcript.proofs.Establishing.{submitted-next, tags_sent-next, same_
 use Rattle.dc_world.proofs.Lists.{slice_get_last}
 use Rattle.dc_world.proofs.Lane.{IsLane, low_is, lane_taken}
 use Rattle.dc_world.proofs.Taking.{is_data_flight}
-use Rattle.dc_world.proofs.Tables.{with_sender, is_established}
+use Rattle.dc_world.proofs.Tables.{with_sender, is_established, Keeps, half_at, sender_put_here, sender_put_apart, sender_put_rx, keeps_sender}
 use Rattle.dc_world.proofs.Contents.{on_moved}
-use Rattle.dc_world.proofs.Directions.{Apart, parted, same_dir, other_dir, direction_leg, not_named}
-use Rattle.dc_world.proofs.Tables.{Keeps, half_at, sender_put, sender_put_same, sender_put_here, sender_put_apart, sender_put_rx, keeps_all, keeps_sender}
+use Rattle.dc_world.proofs.Directions.{each_bearer, Apart, same_dir, other_dir, direction_leg}
 use Rattle.dc_world.proofs.Plain.{IsPlain, plans_same, generation_same, there_then, there_before, tabled_same, phase_same}
 use Rattle.dc_world.proofs.Served.{lane_same, under_way_left, served_next, served_still}
-use Rattle.dc_world.proofs.Silent.{no_ups, no_frees, no_move, none_carried, none_sent_still, grows_same, IsSilent, plain_happened}
+use Rattle.dc_world.proofs.Silent.{no_ups, no_frees, no_move, none_carried, grows_same}
 use Rattle.dc_world.proofs.Sound.{half, sender_table, receiver_table, IsPduOf, IsUnderWay, PromiseOf, Phase, listed, IsServed, NoneSent, Happened, Sound}
-
--- ---- the sending entity
-
--- Low stays where one more is kept, under the next COUNT
-least_push : (next : ℕ) (p : List ℕ) (es : List Kept) → least (next + 1) (es ++ (next, p) ∷ []) ≡ least next es
-least_push next p [] = omega arith
-least_push next p (x ∷ es) = let rest = least_push next p es in omega arith
-
--- why a submission is taken, and that Low stays
-record HasRoom (s after : Sender) : Type 0 where
-  room : s.next < low s + window s.n
-  left : s.next ≡ 2 ^ 32 - 1 → ⊥
-  still : low after ≡ low s
-
--- a submission that is taken had room
-has_room : (s after : Sender) (p : List ℕ) (c : ℕ) → taken s p ≡ Ok (after, c) → HasRoom s after
-has_room s after p c ok =
-    elim (cases_Bool (nat_le (low s + window s.n) s.next)) [
-      | inl full ↦ let f = rw full at ok in absurd (cc (f))
-      | inr room ↦
-          let f = rw room at ok in
-          elim (cases_Bool (s.next == 2 ^ 32 - 1)) [
-            | inl last ↦ let g = rw last at f in absurd (cc (g))
-            | inr left ↦
-                let g = rw left at f in
-                let is : ◌≡◌ {A = Sender × ℕ} (record s { next = s.next + 1; kept = s.kept ++ (s.next, p) ∷ [] }, s.next) (after, c) = cc (g) in
-                record {
-                  room = leb-false _ _ room;
-                  left = eqb-false _ _ left;
-                  still = ap low (sym (ap (λ (q : Sender × ℕ). q.0) is)) ∙ least_push s.next p s.kept;
-                }
-          ]
-    ]
+use Rattle.dc_world.proofs.Leaving.{no_command, no_completion}
+use Rattle.dc_world.proofs.Room.{has_room}
 
 -- the PDU of a number, where one more was sent
 listed_push : (xs : List ℕ) (c num : ℕ) → listed (slice_get xs num) ++ (if length xs == num then c ∷ [] else []) ≡ listed (slice_get (xs ++ c ∷ []) num)
@@ -85,16 +51,6 @@ listed_push (x ∷ xs) c zero = grind (arith, nat_tests)
 listed_push (x ∷ xs) c (suc num) = grind (arith, nat_tests, listed_push xs c num)
 
 -- ---- links and directions
-
--- the PDU is no command
-no_command : (d : Dir) (f : Flight) → put_on mt_ctl (line.Send (leg d) f ∷ []) ≡ []
-no_command Dl f = refl
-no_command Ul f = refl
-
--- and answers none
-no_completion : (d : Dir) (f : Flight) → put_on tm_ctl (line.Send (leg d) f ∷ []) ≡ []
-no_completion Dl f = refl
-no_completion Ul f = refl
 
 -- it stands on the leg of its direction
 own_leg : (d : Dir) (f : Flight) → put_on (leg d) (line.Send (leg d) f ∷ []) ≡ f ∷ []
@@ -292,17 +248,11 @@ module _ (h : Header) (policies : ℕ) (t : List Entry) (w : WorldState) (sound 
 
     -- so is every other
     served_all : (b' : Established) (d' : Dir) → Contains (established t) b' → IsServed (t ++ entry ∷ []) after links' b' d'
-    served_all b' d' at' =
-        elim (parted d id d' b'.id) [
-          | inl same ↦
-              subst (λ k. IsServed (t ++ entry ∷ []) after links' b' k) (sym same.0)
-              (subst (λ x. IsServed (t ++ entry ∷ []) after links' x d) (sym (the_bearer b' at' same.1)) served_here)
-          | inr apart ↦
-              let same : half b' (sender_table d' after) ≡ half b' (sender_table d' w.nodes) = sender_put_apart d w.nodes id e' b' d' apart in
-              served_still t w.nodes w.links b' d' entry after links' (sound.served b' d' at') (no_ups b' d' t entry refl) (rx_still b' d')
-              (submission_apart b' d' apart) (nothing_confirmed b' d') (λ num. tag_apart b' d' num apart)
-              (ap (λ (x : Entities). x.tx) same) (ap (λ (x : Entities). x.sent) same) (λ k way. inr (flying b' d' k way))
-        ]
+    served_all = each_bearer (established t) sound.tables.once b here d id named (λ x k. IsServed (t ++ entry ∷ []) after links' x k) served_here (λ b' d' at' apart.
+        let same : half b' (sender_table d' after) ≡ half b' (sender_table d' w.nodes) = sender_put_apart d w.nodes id e' b' d' apart in
+        served_still t w.nodes w.links b' d' entry after links' (sound.served b' d' at') (no_ups b' d' t entry refl) (rx_still b' d')
+        (submission_apart b' d' apart) (nothing_confirmed b' d') (λ num. tag_apart b' d' num apart)
+        (ap (λ (x : Entities). x.tx) same) (ap (λ (x : Entities). x.sent) same) (λ k way. inr (flying b' d' k way)))
 
     -- ---- the PDU
 
@@ -361,15 +311,9 @@ module _ (h : Header) (policies : ℕ) (t : List Entry) (w : WorldState) (sound 
 
     -- Low stays
     low_still : (b' : Established) (d' : Dir) → Contains (established t) b' → low (half b' (sender_table d' after)).tx ≡ low (half b' (sender_table d' w.nodes)).tx
-    low_still b' d' at' =
-        elim (parted d id d' b'.id) [
-          | inl same ↦
-              let here' : low (half b (sender_table d after)).tx ≡ low (half b (sender_table d w.nodes)).tx =
-              ap (λ (x : Entities). low x.tx) half_after ∙ (has_room e.tx tx payload c ok).still ∙ sym (ap (λ (x : Entities). low x.tx) half_before) in
-              subst (λ k. low (half b' (sender_table k after)).tx ≡ low (half b' (sender_table k w.nodes)).tx) (sym same.0)
-              (subst (λ x. low (half x (sender_table d after)).tx ≡ low (half x (sender_table d w.nodes)).tx) (sym (the_bearer b' at' same.1)) here')
-          | inr apart ↦ ap (λ (x : Entities). low x.tx) (sender_put_apart d w.nodes id e' b' d' apart)
-        ]
+    low_still = each_bearer (established t) sound.tables.once b here d id named (λ x k. low (half x (sender_table k after)).tx ≡ low (half x (sender_table k w.nodes)).tx)
+        (ap (λ (x : Entities). low x.tx) half_after ∙ (has_room e.tx tx payload c ok).still ∙ sym (ap (λ (x : Entities). low x.tx) half_before))
+        (λ b' d' at' apart. ap (λ (x : Entities). low x.tx) (sender_put_apart d w.nodes id e' b' d' apart))
 
     -- there was room, and a COUNT was left
     due : submit_answer d t (Some b) ≡ answer.Ok

@@ -1,16 +1,16 @@
 -- What a node holds after a bearer is put in its place, and how that follows the transcript.
-use Rattle.std.proofs.Common.{ℕ, zero, suc, ◌≡◌, ◌+◌, ◌-◌, ◌<◌, ◌≤◌, ◌⊎◌, ◌==◌, ◌++◌, true, false, List, [], ◌∷◌, Option, Some, None, length, take, slice_get, refl, sym, ap, ◌∙◌, subst, arith, inl, inr}
+use Rattle.std.proofs.Common.{ℕ, zero, suc, ◌≡◌, ◌+◌, ◌-◌, ◌<◌, ◌≤◌, ◌==◌, true, false, List, [], ◌∷◌, Option, Some, None, length, take, refl, sym, ap, ◌∙◌, subst, arith, inl, inr}
 use Rattle.std.proofs.lemmas.List.{get_or-set_same, get_or-set_other, length-set, length-take-le}
 use Rattle.std.proofs.lemmas.Option.{same_Some}
 use Rattle.std.proofs.lemmas.Bool.{cases_Bool, eq-eqb, eqb-true}
-use Rattle.std.specs.Prelude.{if◌then◌else◌, Contains, slice_set, slice_index_or, slice_get}
+use Rattle.std.specs.Prelude.{Contains}
 use Rattle.std.specs.Option.{option_map}
 use Rattle.dc_base.specs.declared.nodes.Dir.{Dir}
 use Rattle.dc_base.specs.declared.nodes.Dir.TheVariants.{Ul, Dl}
 use Rattle.transcript.specs.Transcript.{Entry}
 use Rattle.transcript.specs.Bearers.{Established, established, latest, at_terminal, is_set, submitted, handed, numbered}
 use Rattle.transcript.proofs.Establishing.{latest_there}
-use Rattle.dc_world.specs.Entities.{Entities, Table, fresh, bearer_in, with_bearer}
+use Rattle.dc_world.specs.Entities.{Entities, Table, bearer_in, with_bearer}
 use Rattle.dc_world.specs.Control.{Nodes}
 use Rattle.dc_world.specs.Links.{Links}
 use Rattle.dc_world.proofs.Sound.{or_fresh, half, sender_table, receiver_table, IsServed, IsTabled}

@@ -1,33 +1,12 @@
 -- The lines of payloads that go up: what they say, and what they do not.
-use Rattle.std.proofs.Common.{ℕ, zero, suc, ◌≡◌, ◌+◌, ◌-◌, ◌<◌, ◌⊎◌, ◌==◌, ◌++◌, true, false, Bool, List, [], ◌∷◌, Option, Some, None, length, map, take, slice_get, refl, sym, ap, ◌∙◌, subst, arith, inl, inr}
-use Rattle.std.specs.Prelude.{if◌then◌else◌, ◌&&◌, fold, is_some, Contains}
-use Rattle.std.specs.List.{flat_map, remove}
-use Rattle.std.specs.Option.{option_map}
-use Rattle.std.proofs.lemmas.List.{append-nil}
-use Rattle.std.proofs.lemmas.Option.{same_Some}
-use Rattle.std.proofs.lemmas.Bool.{cases_Bool, eqb-true}
-use Rattle.dc_base.specs.declared.numbers.SnLen.{SnLen}
+use Rattle.std.proofs.Common.{ℕ, ◌≡◌, ◌==◌, ◌++◌, true, false, Bool, List, [], ◌∷◌, Option, map, refl, ap, ◌∙◌}
+use Rattle.std.specs.Prelude.{if◌then◌else◌, ◌&&◌, fold}
+use Rattle.std.specs.List.{flat_map}
 use Rattle.dc_base.specs.declared.nodes.Dir.{Dir}
-use Rattle.dc_base.specs.declared.nodes.Dir.TheVariants.{Ul, Dl}
-use Rattle.dc_base.specs.declared.flights.Flight.{Flight}
-use Rattle.dc_base.specs.declared.events.Header.{Header}
 use Rattle.dc_base.specs.declared.events.Line.{Line}
-use Rattle.pdcp_tx.specs.Sender.{Sender}
-use Rattle.pdcp_rx.specs.declared.entity.RxParts.{RxParts}
-use Rattle.pdcp_rx.specs.Receiver.{Received}
-use Rattle.transcript.specs.Transcript.{Entry, sends}
-use Rattle.transcript.specs.Content.{mt_ctl, tm_ctl}
-use Rattle.transcript.specs.Bearers.{Established, established, established_by, latest, generation, is_draw, plans, plan_of, key_in, submission, submitted, ups, up_of, handed, numbered, confirmed, confirms, tag_of, tags_sent, freed_of, is_same_dir, ends_command, command_after, open_command, has_after, is_set}
-use Rattle.transcript.specs.Claims.{TakesData}
-use Rattle.transcript.proofs.Growing.{SomeEntry-later}
-use Rattle.dc_world.specs.Entities.{Entities, Table, bearer_in, with_bearer}
-use Rattle.dc_world.specs.Plane.{leg, other, up_line}
-use Rattle.dc_world.specs.Control.{Nodes}
-use Rattle.dc_world.specs.Links.{Links, on}
-use Rattle.transcript.proofs.Establishing.{IsOnce, submitted-next, handed-next, confirmed-next, tags_sent-next, plans-next, generation-next, open_command-next, is_set-next}
-use Rattle.dc_world.proofs.Lane.{IsLane}
-use Rattle.dc_world.proofs.Sound.{half, sender_table, receiver_table, CarriesCount, IsUnderWay, Phase, idle, commanded, answered, listed, IsServed, IsTabled}
-use Rattle.dc_world.proofs.Tables.{bearer_in-same, bearer_in-other, with_receiver}
+use Rattle.transcript.specs.Transcript.{sends}
+use Rattle.transcript.specs.Bearers.{Established, up_of, freed_of, is_same_dir, ends_command, has_after}
+use Rattle.dc_world.specs.Plane.{up_line}
 
 module _ (id : ℕ) (d : Dir) (last : List Line) where
   -- payloads that go up send nothing
