@@ -12,9 +12,9 @@ use Rattle.dc_base.specs.declared.nodes.Class.TheVariants.{Ctl, Feed, Air, Tun}
 use Rattle.dc_base.specs.declared.flights.Flight.{Flight}
 use Rattle.dc_base.specs.declared.events.Header.{Header}
 use Rattle.transcript.specs.Transcript.{Entry, sends}
-use Rattle.transcript.specs.Content.{is_same_link, without_taken, on_link, put_on, place_taken}
-use Rattle.transcript.specs.Bearers.{Established, established, submitted, handed, confirmed, numbered, least_but, told}
-use Rattle.transcript.specs.Claims.{KeepsAll, HasCause, IsLicensed}
+use Rattle.transcript.specs.Content.{is_same_link, without_taken, on_link, put_on, place_taken, mt_ctl, tm_ctl}
+use Rattle.transcript.specs.Bearers.{Established, established, submitted, handed, confirmed, numbered, least_but, told, open_command}
+use Rattle.transcript.specs.Claims.{KeepsAll, HasCause, IsLicensed, IsQuiet, NoStall}
 use Rattle.transcript.proofs.OnEach.{each_append, each_remove, each_weaker}
 use Rattle.transcript.proofs.Growing.{Each-next}
 use Rattle.transcript.proofs.Establishing.{none_submitted, none_confirmed}
@@ -29,32 +29,56 @@ use Rattle.dc_world.specs.Control.{Nodes}
 use Rattle.dc_world.specs.Links.{Links, on, moved}
 use Rattle.dc_world.specs.Plane.{leg, other}
 use Rattle.dc_world.specs.Run.{WorldState}
-use Rattle.dc_world.proofs.Sound.{or_fresh, half, sender_table, receiver_table, IsUnderWay, IsServed, IsPduOf, IsAckOf, Promise, PromiseOf, Grows, Happened, Sound}
+use Rattle.dc_world.proofs.Sound.{or_fresh, half, sender_table, receiver_table, IsUnderWay, IsServed, IsPduOf, IsReportOf, IsGot, IsAckOf, OnLeg, a_pdu, a_report, an_ack, Promise, PromiseOf, Phase, idle, commanded, answered, recovering, recovered, Grows, Happened, Sound}
 
 module _ (h : Header) (t : List Entry) (s : Nodes) (t' : List Entry) (s' : Nodes) (grows : Grows t s t' s') where
-  pdu_later : (d : Dir) (f : Flight) → IsPduOf h t d f → IsPduOf h t' d f
+  pdu_later : (d : Dir) (f : Flight) → IsPduOf h t s d f → IsPduOf h t' s' d f
   pdu_later d f p = record {
     bearer = p.bearer;
     there = grows.there p.bearer p.there;
+    num = p.num;
     count = p.count;
+    numbered = grows.sent p.bearer d p.there p.num (Some p.count) p.numbered;
     payload = p.payload;
     good = p.good;
     submission = grows.numbered p.bearer d p.there (p.count, p.payload) p.submission;
     is = p.is;
   }
 
+  report_later : (d : Dir) (f : Flight) → IsReportOf t s d f → IsReportOf t' s' d f
+  report_later d f r = record {
+    bearer = r.bearer;
+    there = grows.there r.bearer r.there;
+    num = r.num;
+    numbered = grows.sent r.bearer d r.there r.num None r.numbered;
+    pdu = r.pdu;
+    control = r.control;
+    fmc = r.fmc;
+    bits = r.bits;
+    read = r.read;
+    named = λ c from is. grows.received r.bearer (other d) r.there c (r.named c from is);
+    is = r.is;
+  }
+
+  got_later : (b : Established) (d : Dir) → Contains (established t) b → (o : Option ℕ) → IsGot b (half b (receiver_table d s)).rx o → IsGot b (half b (receiver_table d s')).rx o
+  got_later b d there None got = got
+  got_later b d there (Some c) got = (got.0, grows.received b d there c got.1)
+
   ack_later : (d : Dir) (f : Flight) → IsAckOf t s d f → IsAckOf t' s' d f
   ack_later d f a = record {
     bearer = a.bearer;
     there = grows.there a.bearer a.there;
-    count = a.count;
-    counted = a.counted;
-    got = grows.received a.bearer d a.there a.count a.got;
+    num = a.num;
+    sent = a.sent;
+    numbered = grows.sent a.bearer d a.there a.num a.sent a.numbered;
+    got = got_later a.bearer d a.there a.sent a.got;
     is = a.is;
   }
 
-  air_later : (d : Dir) (f : Flight) → IsPduOf h t d f ⊎ IsAckOf t s (other d) f → IsPduOf h t' d f ⊎ IsAckOf t' s' (other d) f
-  air_later d f promise = elim promise [ inl pdu ↦ inl (pdu_later d f pdu) | inr ack ↦ inr (ack_later (other d) f ack) ]
+  air_later : (d : Dir) (f : Flight) → OnLeg h t s d f → OnLeg h t' s' d f
+  air_later d f (a_pdu pdu) = a_pdu (pdu_later d f pdu)
+  air_later d f (a_report r) = a_report (report_later d f r)
+  air_later d f (an_ack ack) = an_ack (ack_later (other d) f ack)
 
   -- promises last
   pub Promise-later : (from to : Node) (class : Class) (f : Flight) → Promise h t s from to class f → Promise h t' s' from to class f
@@ -132,6 +156,17 @@ module _ (h : Header) (policies : ℕ) (t : List Entry) (w : WorldState) (e : En
         complete = λ quiet. served_complete t' s' links' b d served (sym (contents-next t e w.links sound.long sound.contents (leg d)) ∙ quiet (leg d));
       }
 
+  -- with nothing on the control links no command is open
+  unstalled : Phase h (t ++ e ∷ []) s' links' → on links' mt_ctl ≡ [] → on links' tm_ctl ≡ [] → open_command (t ++ e ∷ []) ≡ None
+  unstalled (idle free mt tm all) down up = sym happened.tables.busy_is ∙ free
+  unstalled (commanded b there shape threshold policy busy mt tm unused unsent absent only) down up = absurd (let stands = sym mt ∙ down in cc)
+  unstalled (answered b there busy mt tm all) down up = absurd (let stands = sym tm ∙ up in cc)
+  unstalled (recovering b there busy mt tm all) down up = absurd (let stands = sym mt ∙ down in cc)
+  unstalled (recovered b there busy mt tm all) down up = absurd (let stands = sym tm ∙ up in cc)
+
+  on_control : (l : LinkId) → IsQuiet (t ++ e ∷ []) → on links' l ≡ []
+  on_control l quiet = sym (contents-next t e w.links sound.long sound.contents l) ∙ quiet l
+
   -- and so the whole is kept
   pub sound_next : Sound h policies (t ++ e ∷ []) (record w { nodes = s'; links = links' })
   sound_next = record {
@@ -152,6 +187,7 @@ module _ (h : Header) (policies : ℕ) (t : List Entry) (w : WorldState) (e : En
     claims = Each-next (KeepsAll h) t e sound.claims kept;
     causes = Each-next (HasCause policies) t e sound.causes happened.cause;
     licence = Each-next (IsLicensed h) t e sound.licence happened.licence;
+    no_stall = Each-next NoStall t e sound.no_stall (λ quiet. unstalled happened.phase (on_control mt_ctl quiet) (on_control tm_ctl quiet));
   }
     where
       each_left : (P : Flight → Type 0) (l : LinkId) (place : Option (LinkId × ℕ)) (fs : List Flight) → AllByRecursion P fs → AllByRecursion P (without_taken l place fs)

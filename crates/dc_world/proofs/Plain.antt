@@ -9,13 +9,13 @@ use Rattle.dc_base.specs.declared.nodes.Dir.TheVariants.{Ul, Dl}
 use Rattle.dc_base.specs.declared.events.Header.{Header}
 use Rattle.transcript.specs.Transcript.{Entry}
 use Rattle.transcript.specs.Content.{mt_ctl, tm_ctl}
-use Rattle.transcript.specs.Bearers.{Established, established, established_by, latest, generation, is_draw, plan_of, plans, ends_command, open_command, has_after, is_set, at_terminal, key_in, submission}
+use Rattle.transcript.specs.Bearers.{OpenCommand, change, opens, Established, established, established_by, latest, generation, is_draw, plan_of, plans, ends_command, open_command, has_after, is_set, at_terminal, key_in, submission}
 use Rattle.dc_world.specs.Entities.{Entities, bearer_in}
 use Rattle.dc_world.specs.Control.{Nodes}
 use Rattle.dc_world.specs.Links.{Links, on}
 use Rattle.transcript.proofs.Establishing.{IsOnce, submitted-next, plans-next, generation-next, open_command-next, is_set-next}
-use Rattle.dc_world.proofs.Sound.{AllConfigured, Phase, IsTabled}
-use Rattle.dc_world.proofs.Sound.Phase.{idle, commanded, answered}
+use Rattle.dc_world.proofs.Sound.{half, AllConfigured, Phase, IsTabled}
+use Rattle.dc_world.proofs.Sound.Phase.{idle, commanded, answered, recovering, recovered}
 use Rattle.dc_world.proofs.Tables.{Keeps}
 
 -- ---- an entry that draws nothing
@@ -48,10 +48,11 @@ module _ (t : List Entry) (e : Entry) (undrawn : IsUndrawn e) where
 
 -- ---- a plain entry
 
--- it draws no generation, ends no command, and the terminal has the same bearers after it
+-- it draws no generation, opens and ends no command, and the terminal has the same bearers after it
 pub record IsPlain (e : Entry) : Type 0 where
   pub undrawn : IsUndrawn e
-  pub no_end : (g : Option ℕ) → fold ends_command g e.lines ≡ g
+  pub no_open : (g : ℕ) (open' : Option OpenCommand) → opens g open' e.event e.answer ≡ open'
+  pub no_end : (open' : Option OpenCommand) → fold ends_command open' e.lines ≡ open'
   pub no_set : (id : ℕ) (has : Bool) → fold (has_after id) has e.lines ≡ has
 
 module _ (t : List Entry) (e : Entry) (plain : IsPlain e) where
@@ -59,7 +60,7 @@ module _ (t : List Entry) (e : Entry) (plain : IsPlain e) where
   open_same : open_command (t ++ e ∷ []) ≡ open_command t
   open_same =
       open_command-next t e
-      ∙ ap (λ c. fold ends_command (if c then Some (generation t + 1) else open_command t) e.lines) plain.undrawn.no_draw
+      ∙ ap (λ o. fold ends_command o e.lines) (plain.no_open (generation t + 1) (open_command t))
       ∙ plain.no_end (open_command t)
 
   -- the terminal has the same bearers
@@ -110,15 +111,21 @@ module _ (t : List Entry) (e : Entry) (plain : IsPlain e) (s s' : Nodes) (keeps 
   configured_same : AllConfigured t s → AllConfigured (t ++ e ∷ []) s'
   configured_same all b there none = all b (there_before t e plain.undrawn b there) (none_before b.id none)
 
-  -- the phase is as it was, where nothing is submitted to a bearer whose command is open
+  -- the phase is as it was, where nothing is submitted to a bearer whose command is open, and it sends nothing
   pub phase_same : (h : Header) (links links' : Links) → on links' mt_ctl ≡ on links mt_ctl → on links' tm_ctl ≡ on links tm_ctl
-      → ((b : Established) → Contains (established t) b → s.busy ≡ Some b.g → bearer_in s.terminal b.id ≡ None → (d : Dir) → submission b d t e ≡ [])
+      → ((b : Established) → Contains (established t) b → s.busy ≡ Some (change b.g) → bearer_in s.terminal b.id ≡ None → (d : Dir) → submission b d t e ≡ [])
+      → ((b : Established) → Contains (established t) b → s.busy ≡ Some (change b.g) → (half b s'.master).sent ≡ (half b s.master).sent)
       → Phase h t s links → Phase h (t ++ e ∷ []) s' links'
-  phase_same h links links' mt tm none (idle busy to_t to_m all) = idle (keeps.busy ∙ busy) (mt ∙ to_t) (tm ∙ to_m) (configured_same all)
-  phase_same h links links' mt tm none (commanded b there shape threshold policy busy to_t to_m before absent only) =
+  phase_same h links links' mt tm none same (idle busy to_t to_m all) = idle (keeps.busy ∙ busy) (mt ∙ to_t) (tm ∙ to_m) (configured_same all)
+  phase_same h links links' mt tm none same (commanded b there shape threshold policy busy to_t to_m before unsent absent only) =
       commanded b (there_then t e plain.undrawn b there) shape threshold policy (keeps.busy ∙ busy) (mt ∙ to_t) (tm ∙ to_m)
       (λ d. submitted-next b d t e ∙ ap (λ xs. xs ++ submission b d t e) (before d) ∙ none b there busy absent d)
+      (same b there busy ∙ unsent)
       (none_after b.id absent)
       (λ c at lacks. only c (there_before t e plain.undrawn c at) (none_before c.id lacks))
-  phase_same h links links' mt tm none (answered b there busy to_t to_m all) =
+  phase_same h links links' mt tm none same (answered b there busy to_t to_m all) =
       answered b (there_then t e plain.undrawn b there) (keeps.busy ∙ busy) (mt ∙ to_t) (tm ∙ to_m) (configured_same all)
+  phase_same h links links' mt tm none same (recovering b there busy to_t to_m all) =
+      recovering b (there_then t e plain.undrawn b there) (keeps.busy ∙ busy) (mt ∙ to_t) (tm ∙ to_m) (configured_same all)
+  phase_same h links links' mt tm none same (recovered b there busy to_t to_m all) =
+      recovered b (there_then t e plain.undrawn b there) (keeps.busy ∙ busy) (mt ∙ to_t) (tm ∙ to_m) (configured_same all)

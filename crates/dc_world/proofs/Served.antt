@@ -1,5 +1,5 @@
 -- A bearer that is served is so after an entry; and what is under way.
-use Rattle.std.proofs.Common.{ℕ, zero, suc, ◌≡◌, ◌-◌, ◌<◌, ◌≤◌, ◌⊎◌, ◌++◌, List, [], ◌∷◌, Some, take, slice_get, refl, sym, ap, ◌∙◌, subst, arith, inl, inr}
+use Rattle.std.proofs.Common.{Option, ℕ, zero, suc, ◌≡◌, ◌-◌, ◌<◌, ◌≤◌, ◌⊎◌, ◌++◌, List, [], ◌∷◌, Some, take, slice_get, refl, sym, ap, ◌∙◌, subst, arith, inl, inr}
 use Rattle.std.specs.List.{flat_map, remove}
 use Rattle.std.proofs.lemmas.List.{append-nil, take-append-le}
 use Rattle.std.proofs.lemmas.Option.{same_Some}
@@ -10,7 +10,7 @@ use Rattle.pdcp_tx.specs.Sender.{Sender}
 use Rattle.pdcp_rx.specs.declared.entity.RxParts.{RxParts}
 use Rattle.pdcp_rx.specs.Receiver.{Received}
 use Rattle.transcript.specs.Transcript.{Entry, sends}
-use Rattle.transcript.specs.Bearers.{Established, submission, submitted, ups, handed, numbered, confirmed, confirms, tag_of, tags_sent}
+use Rattle.transcript.specs.Bearers.{Confirmation, Established, submission, submitted, ups, handed, numbered, confirmed, confirms, tag_of, tags_sent}
 use Rattle.transcript.specs.Claims.{TakesData}
 use Rattle.transcript.proofs.Growing.{SomeEntry-later}
 use Rattle.dc_world.specs.Plane.{leg}
@@ -41,7 +41,7 @@ under_way_but b c (suc i) f (g ∷ fs) at way =
 -- ---- a bearer
 
 -- a lane with equal parts
-pub lane_same : (n : SnLen) (first : ℕ) (xs xs' : List (List ℕ)) (cs cs' : List ℕ) (tx tx' : Sender) (sent sent' : List ℕ) (rx rx' : RxParts)
+pub lane_same : (n : SnLen) (first : ℕ) (xs xs' : List (List ℕ)) (cs cs' : List Confirmation) (tx tx' : Sender) (sent sent' : List (Option ℕ)) (rx rx' : RxParts)
     → xs' ≡ xs → cs' ≡ cs → tx' ≡ tx → sent' ≡ sent → rx' ≡ rx → IsLane n first xs cs tx sent rx → IsLane n first xs' cs' tx' sent' rx'
 lane_same n first xs xs' cs cs' tx tx' sent sent' rx rx' x c s q r lane =
     subst (λ a. IsLane n first a cs' tx' sent' rx') (sym x) (subst (λ a. IsLane n first xs a tx' sent' rx') (sym c)

@@ -1,6 +1,6 @@
 -- What an entry keeps that carries no data.
-use Rattle.std.proofs.Common.{ℕ, ◌≡◌, ◌+◌, ◌≤◌, ◌++◌, List, [], ◌∷◌, length, refl, sym, ap, ◌∙◌, subst, arith, inl, inr, append-nil, ◌⊎◌}
-use Rattle.std.specs.Prelude.{if◌then◌else◌, nat_lt, Contains}
+use Rattle.std.proofs.Common.{ℕ, ◌≡◌, ◌+◌, ◌≤◌, ◌++◌, Option, Some, slice_get, List, [], ◌∷◌, length, refl, sym, ap, ◌∙◌, subst, arith, inl, inr, append-nil, ◌⊎◌}
+use Rattle.std.specs.Prelude.{if◌then◌else◌, nat_lt, count_by, Contains}
 use Rattle.std.specs.List.{AllByRecursion, flat_map}
 use Rattle.std.proofs.lemmas.Bool.{cond-false, le-ltb, cases_Bool}
 use Rattle.dc_base.specs.declared.nodes.Dir.{Dir}
@@ -9,13 +9,13 @@ use Rattle.pdcp_tx.specs.Sender.{low}
 use Rattle.pdcp_rx.specs.Receiver.{Received}
 use Rattle.transcript.specs.Transcript.{Entry, sends, SomeEntry}
 use Rattle.transcript.specs.Bearers.{Established, established, generation, submission, submitted, ups, handed, confirms, confirmed, tag_of, tags_sent, frees, up_of, freed_of, is_latest}
-use Rattle.transcript.specs.Claims.{TakesData, Carried, IsDataFlight, IsProtected, IsReason, HasCause}
+use Rattle.transcript.specs.Claims.{TakesData, Carried, IsDataFlight, IsProtected, IsReason, HasCause, AscendsFrom, count_in, is_uncounted}
 use Rattle.dc_world.specs.Plane.{leg}
 use Rattle.dc_world.specs.Control.{Nodes}
 use Rattle.dc_world.specs.Links.{Links, on, moved}
 use Rattle.transcript.proofs.Establishing.{confirmed-next, submitted-next, handed-next, tags_sent-next, generation-next}
 use Rattle.dc_world.proofs.Lane.{IsNumbered, IsNumbered-later}
-use Rattle.dc_world.proofs.Sound.{half, sender_table, receiver_table, Grows, NoneSent, IsUnderWay, IsTabled, Phase, PromiseOf, Happened, Sound}
+use Rattle.dc_world.proofs.Sound.{half, sender_table, receiver_table, IsNumberOf, Grows, NoneSent, IsUnderWay, IsTabled, Phase, PromiseOf, Happened, Sound}
 use Rattle.transcript.specs.Content.{mt_ctl, tm_ctl, place_taken}
 use Rattle.dc_base.specs.declared.events.Header.{Header}
 use Rattle.dc_base.specs.declared.flights.Flight.{Flight}
@@ -57,16 +57,19 @@ none_sent_still t e tags none l id g num later =
 -- what flights speak of is still so
 pub grows_next : (t : List Entry) (e : Entry) (s s' : Nodes) → ((b : Established) → Contains (established t) b → Contains (established (t ++ e ∷ [])) b)
     → ((b : Established) (d : Dir) → Contains (established t) b → (c : ℕ) → Received (half b (receiver_table d s)).rx c → Received (half b (receiver_table d s')).rx c)
+    → ((b : Established) (d : Dir) → Contains (established t) b → (num : ℕ) (sent : Option ℕ) → IsNumberOf s b d num sent → IsNumberOf s' b d num sent)
     → Grows t s (t ++ e ∷ []) s'
-grows_next t e s s' there received = record {
+grows_next t e s s' there received sent = record {
   there = there;
   numbered = λ b d at x is. subst (λ xs. IsNumbered b.first xs x) (sym (submitted-next b d t e)) (IsNumbered-later b.first (submitted b d t) (submission b d t e) x is);
   received = received;
+  sent = sent;
 }
 
--- so it is where each receiving entity is as before
+-- so it is where each receiving entity is as before, and each leg has the numbers that it had
 pub grows_same : (t : List Entry) (e : Entry) (s s' : Nodes) → ((b : Established) → Contains (established t) b → Contains (established (t ++ e ∷ [])) b)
     → ((b : Established) (d : Dir) → Contains (established t) b → (half b (receiver_table d s')).rx ≡ (half b (receiver_table d s)).rx)
+    → ((b : Established) (d : Dir) → Contains (established t) b → (num : ℕ) (sent : Option ℕ) → IsNumberOf s b d num sent → IsNumberOf s' b d num sent)
     → Grows t s (t ++ e ∷ []) s'
 grows_same t e s s' there same = grows_next t e s s' there (λ b d at c got. subst (λ r. Received r c) (sym (same b d at)) got)
 
@@ -121,7 +124,8 @@ module _ (h : Header) (policies : ℕ) (t : List Entry) (w : WorldState) (sound 
         let was = there_before t e undrawn b there in
         served_still t w.nodes w.links b d e s' links' (sound.served b d was) (silent.hands b d) (ap (λ (x : Entities). x.rx) (receiver_same b d))
         (silent.submits b d) (silent.confirms b d) (silent.tags (leg d) b.id b.g) (ap (λ (x : Entities). x.tx) (same b d)) (ap (λ (x : Entities). x.sent) (same b d)) (flying b d was);
-    grows = grows_same t e w.nodes s' (there_then t e undrawn) (λ b d there. ap (λ (x : Entities). x.rx) (receiver_same b d));
+    grows = grows_same t e w.nodes s' (there_then t e undrawn) (λ b d there. ap (λ (x : Entities). x.rx) (receiver_same b d))
+        (λ b d there num o is. subst (λ (x : Entities). slice_get x.sent num ≡ Some o) (sym (same b d)) is);
     sent = subst (AllByRecursion (PromiseOf h (t ++ e ∷ []) s')) (sym quiet) tt;
     none_sent = none_sent_still t e silent.tags sound.none_sent;
     protects = λ b d there. subst (AllByRecursion (λ s. IsDataFlight (t ++ e ∷ []) b d s → IsProtected h (t ++ e ∷ []) b d s)) (sym quiet) tt;
@@ -131,7 +135,8 @@ module _ (h : Header) (policies : ℕ) (t : List Entry) (w : WorldState) (sound 
     cause = due;
     licence = record {
       reasons = subst (AllByRecursion (IsReason h t e)) (sym quiet) tt;
-      one = subst (λ (ss : List (LinkId × Flight)). length ss ≤ 1) (sym quiet) (omega arith);
+      ascends = subst (λ (ss : List (LinkId × Flight)). AscendsFrom 0 (flat_map count_in ss)) (sym quiet) tt;
+      one = subst (λ (ss : List (LinkId × Flight)). count_by is_uncounted ss ≤ 1) (sym quiet) (omega arith);
     };
   }
 
@@ -141,4 +146,4 @@ module _ (h : Header) (policies : ℕ) (t : List Entry) (w : WorldState) (sound 
       → HasCause policies t e → Happened h policies t w e s'
   plain_happened plain keeps down up =
       silent_happened plain.undrawn (tabled_same t e plain w.nodes s' keeps sound.tables)
-      (phase_same t e plain w.nodes s' keeps h w.links links' down up (λ b there busy absent d. silent.submits b d) sound.phase)
+      (phase_same t e plain w.nodes s' keeps h w.links links' down up (λ b there busy absent d. silent.submits b d) (λ b there busy. ap (λ (x : Entities). x.sent) (same b Dl)) sound.phase)

@@ -137,7 +137,7 @@ pub data Phase (h : Header) (t : List Entry) (s : Nodes) (links : Links) : Type 
   idle : s.busy ≡ None → on links mt_ctl ≡ [] → on links tm_ctl ≡ [] → AllConfigured t s → Phase h t s links
   commanded : (b : Established) → Contains (established t) b → (shape : Shape) (threshold policy : ℕ) → s.busy ≡ Some (change b.g)
       → on links mt_ctl ≡ flight.Ctl (Reconf (plan_for b.g b.id b.n b.first shape threshold policy) h.root) ∷ [] → on links tm_ctl ≡ []
-      → ((d : Dir) → submitted b d t ≡ []) → bearer_in s.terminal b.id ≡ None
+      → ((d : Dir) → submitted b d t ≡ []) → (half b s.master).sent ≡ [] → bearer_in s.terminal b.id ≡ None
       → ((c : Established) → Contains (established t) c → bearer_in s.terminal c.id ≡ None → c ≡ b) → Phase h t s links
   answered : (b : Established) → Contains (established t) b → s.busy ≡ Some (change b.g) → on links mt_ctl ≡ [] → on links tm_ctl ≡ flight.Ctl (Rcomp b.g) ∷ []
       → AllConfigured t s → Phase h t s links

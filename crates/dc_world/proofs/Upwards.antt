@@ -5,7 +5,7 @@ use Rattle.std.specs.List.{flat_map}
 use Rattle.dc_base.specs.declared.nodes.Dir.{Dir}
 use Rattle.dc_base.specs.declared.events.Line.{Line}
 use Rattle.transcript.specs.Transcript.{sends}
-use Rattle.transcript.specs.Bearers.{Established, up_of, freed_of, is_same_dir, ends_command, has_after}
+use Rattle.transcript.specs.Bearers.{OpenCommand, Established, up_of, freed_of, is_same_dir, ends_command, has_after}
 use Rattle.dc_world.specs.Plane.{up_line}
 
 module _ (id : ℕ) (d : Dir) (last : List Line) where
@@ -35,6 +35,6 @@ module _ (id : ℕ) (d : Dir) (last : List Line) where
   has_after_ups k has (u ∷ run) = has_after_ups k has run
 
   -- they end no command
-  pub command_after_ups : (g : Option ℕ) (run : List (ℕ × List ℕ)) → fold ends_command g (map (up_line id d) run ++ last) ≡ fold ends_command g last
+  pub command_after_ups : (g : Option OpenCommand) (run : List (ℕ × List ℕ)) → fold ends_command g (map (up_line id d) run ++ last) ≡ fold ends_command g last
   command_after_ups g [] = refl
   command_after_ups g (u ∷ run) = command_after_ups g run
