@@ -1,29 +1,30 @@
 -- One bearer in one direction: what was submitted, its sending entity, its receiving entity, and what every event keeps.
 use Rattle.std.proofs.Common.{ℕ, zero, suc, ◌≡◌, ◌+◌, ◌-◌, ◌^◌, ◌<◌, ◌≤◌, ◌⊎◌, ◌==◌, ◌||◌, ◌++◌, ◌&&◌, not, Bool, true, false, List, [], ◌∷◌, Some, None, length, take, drop, slice_get, refl, sym, ap, ◌∙◌, subst, arith, inl, inr, append_assoc}
-use Rattle.std.specs.Prelude.{Ok, Option, filter, if◌then◌else◌, nat_lt, nat_le}
-use Rattle.std.specs.List.{AllByRecursion, list_any, range_with_len}
+use Rattle.std.specs.Prelude.{Ok, Option, filter, nat_le}
+use Rattle.std.specs.List.{AllByRecursion}
 use Rattle.std.proofs.lemmas.List.{append-nil, length_push, length-take-le, take_all}
 use Rattle.std.proofs.lemmas.List.Folds.{list_any-append}
 use Rattle.std.proofs.lemmas.Option.{slice_get_within}
-use Rattle.std.proofs.lemmas.Bool.{eqb-true, eqb-false, ne_eqb, leb-false, cases_Bool, cases_lt, cases_eq, or_cases, or_from, and_from}
+use Rattle.std.proofs.lemmas.Bool.{eqb-true, eqb-false, eq-eqb, leb-false, not-true, cases_Bool, cases_lt, or_cases, or_from, or_left, or_right, and_from}
 use Rattle.std.proofs.lemmas.Bool.Decides.{nat_tests}
 use Rattle.dc_base.specs.Count.{window, sn, count_for}
 use Rattle.dc_base.specs.declared.numbers.SnLen.{SnLen}
 use Rattle.pdcp_tx.specs.Sender.{Sender, least, low, is_kept, Rises}
-use Rattle.pdcp_tx.specs.Sending.{taken, confirmed}
+use Rattle.pdcp_tx.specs.Sending.{taken}
 use Rattle.pdcp_tx.proofs.Entries.{Rises-bounds, Rises-filter, Rises-enumerated}
-use Rattle.pdcp_tx.proofs.Laws.{is_kept-confirmed, low-confirmed, low-taken}
+use Rattle.pdcp_tx.proofs.Laws.{is_kept-without, low-confirmed, low-reported, low-taken}
 use Rattle.pdcp_rx.specs.Entries.{AscendFrom, is_stored, with_sdu}
 use Rattle.pdcp_rx.specs.Run.{run_from}
 use Rattle.pdcp_rx.specs.declared.entity.RxParts.{RxParts}
 use Rattle.pdcp_rx.specs.Receiver.{put, handed_of, Received}
 use Rattle.pdcp_rx.proofs.Laws.{Received-put, sent_inferred}
-use Rattle.pdcp_rx.proofs.Entries.{AscendFrom-weaker, AscendFrom-with_sdu, stored_from, each_with_sdu, each_drop, each_weaker}
+use Rattle.pdcp_rx.proofs.Entries.{AscendFrom-weaker, AscendFrom-with_sdu, stored_from, each_with_sdu, each_drop}
 use Rattle.pdcp_rx.proofs.Runs.{ascends_past_run}
 use Rattle.pdcp_rx.proofs.Putting.{put_cases}
 use Rattle.pdcp_pdu.specs.DataPdu.{IsPayload}
-use Rattle.transcript.specs.Bearers.{Confirmation, is_of, is_confirmed, numbered, least_but}
-use Rattle.dc_world.proofs.Lists.{slice_get_left, take_next, numbered-append, least_upto, kept_before, kept_same, least_is}
+use Rattle.transcript.specs.Bearers.{Confirmation, acked, reported, is_of, is_confirmed, numbered, least_but}
+use Rattle.transcript.proofs.OnEach.{each_at, each_append, each_weaker}
+use Rattle.dc_world.proofs.Lists.{slice_get_left, slice_get_last, each_filter, take_next, numbered-append, least_upto, kept_before, kept_same, least_is}
 
 -- the payload submitted under this COUNT
 pub record IsNumbered (first : ℕ) (submitted : List (List ℕ)) (e : ℕ × List ℕ) : Type 0 where
@@ -198,6 +199,17 @@ pub IsGiven-later : (first next next' : ℕ) (o : Option ℕ) → next ≤ next'
 IsGiven-later first next next' None le is = is
 IsGiven-later first next next' (Some c) le is = (is.0, omega (arith, is.1))
 
+-- a COUNT is left where it is neither among these nor the one
+but_one : (b i : Bool) → (not b && not i) ≡ not (b || (i || false))
+but_one true i = refl
+but_one false true = refl
+but_one false false = refl
+
+-- Low does not fall where some are confirmed
+pub low_but : (tx : Sender) (x : Confirmation) → low tx ≤ low (record tx { kept = filter (λ e. not (is_of e.0 x)) tx.kept })
+low_but tx (acked c) = low-confirmed tx c
+low_but tx (reported fmc bits) = low-reported tx fmc bits
+
 module _ (n : SnLen) (first : ℕ) (submitted : List (List ℕ)) (confirms : List Confirmation) (tx : Sender) (sent : List (Option ℕ)) (rx : RxParts)
     (lane : IsLane n first submitted confirms tx sent rx) where
   -- Low is where the window begins
@@ -242,20 +254,122 @@ module _ (n : SnLen) (first : ℕ) (submitted : List (List ℕ)) (confirms : Lis
   -- a submission that is taken
   pub lane_taken : (p : List ℕ) (tx' : Sender) (c : ℕ) → IsPayload p → taken tx p ≡ Ok (tx', c)
       → (c ≡ first + length submitted) × IsLane n first (submitted ++ p ∷ []) confirms tx' (sent ++ Some c ∷ []) rx
-  lane_taken p tx' c good ok = ?
+  lane_taken p tx' c good ok =
+      let t = taken_is tx tx' p c ok in
+      let after : Sender = record tx { next = tx.next + 1; kept = tx.kept ++ (tx.next, p) ∷ [] } in
+      let counted = lane.counted in let small = lane.small in let left = t.left in let room = t.room in let upto = lane.upto in
+      let grown : length (submitted ++ p ∷ []) ≡ length submitted + 1 = length_push submitted p in
+      let low_grown : low tx ≤ low after = low-taken tx after p tx.next (ok ∙ ap Ok (sym t.is)) in
+      let same : window tx.n ≡ window n = ap window lane.tx_length in
+      let last : IsNumbered first (submitted ++ p ∷ []) (tx.next, p) = record {
+        counted = omega arith;
+        payload = subst (λ k. slice_get (submitted ++ p ∷ []) k ≡ Some p) (omega arith) (slice_get_last submitted p);
+      } in
+      let lane' : IsLane n first (submitted ++ p ∷ []) confirms after (sent ++ Some tx.next ∷ []) rx = record {
+        tx_length = lane.tx_length;
+        rx_length = lane.rx_length;
+        payloads = each_append IsPayload submitted (p ∷ []) lane.payloads (good, tt);
+        counted = omega arith;
+        small = omega arith;
+        given = each_append (IsGiven first (tx.next + 1)) sent (Some tx.next ∷ [])
+            (each_weaker (IsGiven first tx.next) (IsGiven first (tx.next + 1)) (λ o. IsGiven-later first tx.next (tx.next + 1) o (omega arith)) sent lane.given)
+            ((omega arith, omega arith), tt);
+        rises = Rises-enumerated first tx.next tx.kept (p ∷ []) lane.rises;
+        near = omega arith;
+        kept_are = λ d from below. elim (cases_lt d tx.next) [
+          | inl before ↦ kept_before tx.next d p tx.kept before ∙ lane.kept_are d from before
+          | inr above ↦ kept_same tx.next d p tx.kept (omega arith) ∙ ap not (sym (lane.not_yet d above))
+        ];
+        not_yet = λ d above. lane.not_yet d (omega arith);
+        kept_payloads = each_append (IsNumbered first (submitted ++ p ∷ [])) tx.kept ((tx.next, p) ∷ [])
+            (each_weaker (IsNumbered first submitted) (IsNumbered first (submitted ++ p ∷ [])) (IsNumbered-later first submitted (p ∷ [])) tx.kept lane.kept_payloads)
+            (last, tt);
+        from = lane.from;
+        upto = omega arith;
+        ascends = lane.ascends;
+        stored = each_weaker (IsNumbered first submitted) (IsNumbered first (submitted ++ p ∷ [])) (IsNumbered-later first submitted (p ∷ [])) rx.stored lane.stored;
+        found = λ d from below. elim (cases_lt d tx.next) [
+          | inl before ↦ elim (lane.found d from before) [ inl kept ↦ inl (kept_before tx.next d p tx.kept before ∙ kept) | inr got ↦ inr got ]
+          | inr above ↦ inl (kept_same tx.next d p tx.kept (omega arith))
+        ];
+      } in
+      subst (λ (q : Sender × ℕ). (q.1 ≡ first + length submitted) × IsLane n first (submitted ++ p ∷ []) confirms q.0 (sent ++ Some q.1 ∷ []) rx) t.is (counted, lane')
 
   -- what confirms COUNTs that were received alone
   pub lane_confirmed : (x : Confirmation) → ((c : ℕ) → first ≤ c → is_of c x ≡ true → Received rx c)
       → IsLane n first submitted (confirms ++ x ∷ []) (record tx { kept = filter (λ e. not (is_of e.0 x)) tx.kept }) sent rx
-  lane_confirmed x got = ?
+  lane_confirmed x got =
+      let near = lane.near in let low_grown = low_but tx x in let counted = lane.counted in
+      let added : (d : ℕ) → is_confirmed (confirms ++ x ∷ []) d ≡ (is_confirmed confirms d || (is_of d x || false)) = λ d. list_any-append (is_of d) confirms (x ∷ []) in
+      let kept_now : (d : ℕ) → is_kept (filter (λ e. not (is_of e.0 x)) tx.kept) d ≡ (is_kept tx.kept d && not (is_of d x)) = is_kept-without (λ c. is_of c x) tx.kept in
+      record {
+        tx_length = lane.tx_length;
+        rx_length = lane.rx_length;
+        payloads = lane.payloads;
+        counted = lane.counted;
+        small = lane.small;
+        given = lane.given;
+        rises = Rises-filter (λ e. not (is_of e.0 x)) first tx.next tx.kept lane.rises;
+        near = omega arith;
+        kept_are = λ d from' below'. kept_now d ∙ ap (λ b. b && not (is_of d x)) (lane.kept_are d from' below')
+            ∙ but_one (is_confirmed confirms d) (is_of d x) ∙ ap not (sym (added d));
+        not_yet = λ d above. added d ∙ or_from _ _ (lane.not_yet d above) (elim (cases_Bool (is_of d x)) [
+          | inl is ↦ absurd (let below = received_below d (got d (omega arith) is) in omega arith)
+          | inr other ↦ or_from _ _ other refl
+        ]);
+        kept_payloads = each_filter (IsNumbered first submitted) (λ e. not (is_of e.0 x)) tx.kept lane.kept_payloads;
+        from = lane.from;
+        upto = lane.upto;
+        ascends = lane.ascends;
+        stored = lane.stored;
+        found = λ d from' below'. elim (cases_Bool (is_of d x)) [
+          | inl is ↦ inr (got d from' is)
+          | inr other ↦ elim (lane.found d from' below') [
+            | inl kept ↦ inl (kept_now d ∙ and_from _ _ kept (ap not other))
+            | inr got' ↦ inr got'
+          ]
+        ];
+      }
 
   -- more PDUs are sent, of COUNTs that were given
   pub lane_sent : (more : List (Option ℕ)) → AllByRecursion (IsGiven first tx.next) more → IsLane n first submitted confirms tx (sent ++ more) rx
-  lane_sent more given = ?
+  lane_sent more given =
+      record {
+        tx_length = lane.tx_length;
+        rx_length = lane.rx_length;
+        payloads = lane.payloads;
+        counted = lane.counted;
+        small = lane.small;
+        given = each_append (IsGiven first tx.next) sent more lane.given given;
+        rises = lane.rises;
+        near = lane.near;
+        kept_are = lane.kept_are;
+        not_yet = lane.not_yet;
+        kept_payloads = lane.kept_payloads;
+        from = lane.from;
+        upto = lane.upto;
+        ascends = lane.ascends;
+        stored = lane.stored;
+        found = lane.found;
+      }
+
+  -- each of these, all of which are kept, was submitted, and is not confirmed
+  each_kept : (from : ℕ) (es : List (ℕ × List ℕ)) → first ≤ from → Rises from tx.next es → AllByRecursion (IsNumbered first submitted) es
+      → ((c : ℕ) → is_kept es c ≡ true → is_kept tx.kept c ≡ true)
+      → AllByRecursion (λ (e : ℕ × List ℕ). IsNumbered first submitted e × (e.0 < tx.next) × (is_confirmed confirms e.0 ≡ false) × IsPayload e.1) es
+  each_kept from [] le up all sub = tt
+  each_kept from (e ∷ es) le up all sub =
+      let bounds = Rises-bounds (e.0 + 1) tx.next es up.1 in
+      let above : first ≤ e.0 = omega (arith, up.0) in
+      let below : e.0 < tx.next = omega (arith, bounds.0, bounds.1) in
+      let kept = sub e.0 (or_left (e.0 == e.0) (is_kept es e.0) (eq-eqb e.0 e.0 refl)) in
+      let free : is_confirmed confirms e.0 ≡ false = not-true (is_confirmed confirms e.0) (sym (lane.kept_are e.0 above below) ∙ kept) in
+      ((all.0, below, free, each_at IsPayload submitted (e.0 - first) e.1 lane.payloads all.0.payload),
+       each_kept (e.0 + 1) es (omega arith) up.1 all.1 (λ c k. sub c (or_right (e.0 == c) (is_kept es c) k)))
 
   -- what is kept was submitted, and is not confirmed
   pub kept_unconfirmed : AllByRecursion (λ (e : ℕ × List ℕ). IsNumbered first submitted e × (e.0 < tx.next) × (is_confirmed confirms e.0 ≡ false) × IsPayload e.1) tx.kept
-  kept_unconfirmed = ?
+  kept_unconfirmed = each_kept first tx.kept (omega arith) lane.rises lane.kept_payloads (λ c k. k)
 
   -- a payload is received
   pub lane_put : (c : ℕ) (p : List ℕ) → IsNumbered first submitted (c, p) → IsLane n first submitted confirms tx sent (put rx c p).0

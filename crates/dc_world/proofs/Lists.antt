@@ -1,13 +1,12 @@
 -- Lists of payloads and of their COUNTs: places in them, and one more at the end.
-use Rattle.std.proofs.Common.{ℕ, zero, suc, ◌≡◌, ◌+◌, ◌<◌, ◌≤◌, ◌==◌, ◌||◌, ◌++◌, true, false, not, List, [], ◌∷◌, Some, None, length, take, slice_get, refl, ap, ◌∙◌, subst, arith, inl, inr}
-use Rattle.std.specs.Prelude.{if◌then◌else◌, nat_lt}
+use Rattle.std.proofs.Common.{ℕ, zero, suc, ◌≡◌, ◌+◌, ◌<◌, ◌≤◌, ◌==◌, ◌||◌, ◌++◌, Bool, true, false, not, List, [], ◌∷◌, Some, length, take, slice_get, refl, ap, ◌∙◌, subst, arith, inl, inr}
+use Rattle.std.specs.Prelude.{filter}
+use Rattle.std.specs.List.{AllByRecursion}
 use Rattle.std.proofs.lemmas.Bool.{cases_Bool, eqb-true, or_cases, or_right}
 use Rattle.std.proofs.lemmas.Bool.Decides.{nat_tests}
 use Rattle.pdcp_tx.specs.Sender.{Entry, least, is_kept, Rises}
 use Rattle.pdcp_tx.proofs.Entries.{Rises-bounds}
 use Rattle.transcript.specs.Bearers.{Confirmation, is_confirmed, numbered, least_but}
-use Rattle.std.specs.List.{AllByRecursion}
-use Rattle.pdcp_rx.specs.Run.{IsConsecutive}
 
 -- a place of the first list is one of the two
 pub slice_get_left : {X : Type 0} (xs ys : List X) (k : ℕ) (x : X) → slice_get xs k ≡ Some x → slice_get (xs ++ ys) k ≡ Some x
@@ -25,6 +24,12 @@ pub take_next : {X : Type 0} (xs : List X) (k : ℕ) (x : X) → slice_get xs k 
 take_next [] k x h = absurd cc
 take_next (y ∷ xs) zero x h = cc
 take_next (y ∷ xs) (suc k) x h = let more = take_next xs k x h in cc
+
+-- what is so of each is so of each that passes a test
+pub each_filter : {X : Type 0} (P : X → Type 0) (test : X → Bool) (xs : List X) → AllByRecursion P xs → AllByRecursion P (filter test xs)
+each_filter P test [] all = tt
+each_filter P test (x ∷ xs) all =
+    elim (cases_Bool (test x)) [ inl yes' ↦ rw yes' (all.0, each_filter P test xs all.1) | inr no' ↦ rw no' (each_filter P test xs all.1) ]
 
 -- the COUNTs go on where the first payloads end
 pub numbered-append : (c : ℕ) (xs ys : List (List ℕ)) → numbered c (xs ++ ys) ≡ numbered c xs ++ numbered (c + length xs) ys
@@ -83,15 +88,3 @@ least_is confirms (suc k) c es up are =
           let bounds = Rises-bounds c (c + suc k) es up in
           rw left (omega (arith, bounds.0))
     ]
-
--- ---- what goes up
-
--- consecutive COUNTs are not below the first
-pub consecutive_from : (a c : ℕ) (es : List (ℕ × List ℕ)) → a ≤ c → IsConsecutive c es → AllByRecursion (λ u. a ≤ u.0) es
-consecutive_from a c [] le run = tt
-consecutive_from a c (e ∷ es) le run = (omega (arith, run.0), consecutive_from a (c + 1) es (omega arith) run.1)
-
--- two facts of each element are one
-pub each_both : {X : Type 0} (P Q : X → Type 0) (xs : List X) → AllByRecursion P xs → AllByRecursion Q xs → AllByRecursion (λ x. P x × Q x) xs
-each_both P Q [] all more = tt
-each_both P Q (x ∷ xs) all more = ((all.0, more.0), each_both P Q xs all.1 more.1)
