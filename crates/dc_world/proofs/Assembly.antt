@@ -43,6 +43,7 @@ module _ (h : Header) (t : List Entry) (s : Nodes) (t' : List Entry) (s' : Nodes
     is = p.is;
   }
 
+  -- the confirm of a PDU is one later
   ack_later : (d : Dir) (f : Flight) → IsAckOf t s d f → IsAckOf t' s' d f
   ack_later d f a = record {
     bearer = a.bearer;
@@ -53,6 +54,7 @@ module _ (h : Header) (t : List Entry) (s : Nodes) (t' : List Entry) (s' : Nodes
     is = a.is;
   }
 
+  -- so what stands on a leg keeps its promise
   air_later : (d : Dir) (f : Flight) → IsPduOf h t d f ⊎ IsAckOf t s (other d) f → IsPduOf h t' d f ⊎ IsAckOf t' s' (other d) f
   air_later d f promise = elim promise [ inl pdu ↦ inl (pdu_later d f pdu) | inr ack ↦ inr (ack_later (other d) f ack) ]
 
@@ -86,6 +88,7 @@ served_prefix t s links b d served =
           ∙ ap (λ xs. xs ++ numbered (b.first + length (take k S)) (drop k S)) (sym served.handed_is),
     )
 
+-- all of it was handed up where no flight stands on the leg
 served_complete : (t : List Entry) (s : Nodes) (links : Links) (b : Established) (d : Dir) → IsServed t s links b d → on links (leg d) ≡ []
     → handed b d t ≡ numbered b.first (submitted b d t)
 served_complete t s links b d served none =
@@ -117,6 +120,7 @@ module _ (h : Header) (policies : ℕ) (t : List Entry) (w : WorldState) (e : En
       at_sender Dl none _ = none
       at_sender Ul _ none = none
 
+  -- the entry keeps all claims
   kept : KeepsAll h t e
   kept b d there =
       let served = happened.served b d there in
