@@ -45,6 +45,7 @@ module _ (h : Header) (t : List Entry) (s : Nodes) (t' : List Entry) (s' : Nodes
     is = p.is;
   }
 
+  -- a report is one later
   report_later : (d : Dir) (f : Flight) → IsReportOf t s d f → IsReportOf t' s' d f
   report_later d f r = record {
     bearer = r.bearer;
@@ -60,10 +61,12 @@ module _ (h : Header) (t : List Entry) (s : Nodes) (t' : List Entry) (s' : Nodes
     is = r.is;
   }
 
+  -- what was received is so later
   got_later : (b : Established) (d : Dir) → Contains (established t) b → (o : Option ℕ) → IsGot b (half b (receiver_table d s)).rx o → IsGot b (half b (receiver_table d s')).rx o
   got_later b d there None got = got
   got_later b d there (Some c) got = (got.0, grows.received b d there c got.1)
 
+  -- the confirm of a PDU is one later
   ack_later : (d : Dir) (f : Flight) → IsAckOf t s d f → IsAckOf t' s' d f
   ack_later d f a = record {
     bearer = a.bearer;
@@ -75,6 +78,7 @@ module _ (h : Header) (t : List Entry) (s : Nodes) (t' : List Entry) (s' : Nodes
     is = a.is;
   }
 
+  -- so what stands on a leg keeps its promise
   air_later : (d : Dir) (f : Flight) → OnLeg h t s d f → OnLeg h t' s' d f
   air_later d f (a_pdu pdu) = a_pdu (pdu_later d f pdu)
   air_later d f (a_report r) = a_report (report_later d f r)
@@ -110,6 +114,7 @@ served_prefix t s links b d served =
           ∙ ap (λ xs. xs ++ numbered (b.first + length (take k S)) (drop k S)) (sym served.handed_is),
     )
 
+-- all of it was handed up where no flight stands on the leg
 served_complete : (t : List Entry) (s : Nodes) (links : Links) (b : Established) (d : Dir) → IsServed t s links b d → on links (leg d) ≡ []
     → handed b d t ≡ numbered b.first (submitted b d t)
 served_complete t s links b d served none =
@@ -141,6 +146,7 @@ module _ (h : Header) (policies : ℕ) (t : List Entry) (w : WorldState) (e : En
       at_sender Dl none _ = none
       at_sender Ul _ none = none
 
+  -- the entry keeps all claims
   kept : KeepsAll h t e
   kept b d there =
       let served = happened.served b d there in

@@ -71,19 +71,17 @@ module _ (t : List Entry) (e : Entry) (plain : IsPlain e) where
 
 -- ---- with nodes that keep their bearers
 
+-- entities are there where their bearer is
+pub is_some_map : (o : Option Entities) → is_some (option_map (λ e. e.bearer) o) ≡ is_some o
+is_some_map None = refl
+is_some_map (Some e) = refl
+
 -- a place with no bearer has no entities
 pub none_mapped : (x : Option Entities) → option_map (λ e. e.bearer) x ≡ None → x ≡ None
 none_mapped None is = refl
 none_mapped (Some x) is = absurd cc
 
 module _ (t : List Entry) (e : Entry) (plain : IsPlain e) (s s' : Nodes) (keeps : Keeps s s') where
-  -- one is there where the other is
-  some_mapped : (o p : Option Entities) → option_map (λ e. e.bearer) p ≡ option_map (λ e. e.bearer) o → is_some o ≡ is_some p
-  some_mapped None None same = refl
-  some_mapped None (Some x) same = absurd cc
-  some_mapped (Some x) None same = absurd cc
-  some_mapped (Some x) (Some y) same = refl
-
   -- the nodes still have the bearers of the transcript
   pub tabled_same : IsTabled t s → IsTabled (t ++ e ∷ []) s'
   tabled_same was = record {
@@ -91,7 +89,7 @@ module _ (t : List Entry) (e : Entry) (plain : IsPlain e) (s s' : Nodes) (keeps 
     terminal_long = keeps.terminal_long ∙ was.terminal_long;
     master_is = λ id. keeps.bearers Dl id ∙ was.master_is id ∙ ap (latest id) (sym (established_same t e plain.undrawn));
     terminal_is = λ id. keeps.bearers Ul id ∙ was.terminal_is id ∙ sym (at_terminal_same t e plain id);
-    set_is = λ id. is_set-next id t e ∙ plain.no_set id (is_set id t) ∙ was.set_is id ∙ some_mapped (bearer_in s.terminal id) (bearer_in s'.terminal id) (keeps.bearers Ul id);
+    set_is = λ id. is_set-next id t e ∙ plain.no_set id (is_set id t) ∙ was.set_is id ∙ sym (is_some_map (bearer_in s.terminal id)) ∙ ap (λ o. is_some o) (sym (keeps.bearers Ul id)) ∙ is_some_map (bearer_in s'.terminal id);
     drawn_is = keeps.drawn ∙ was.drawn_is ∙ sym (generation_same t e plain.undrawn);
     busy_is = keeps.busy ∙ was.busy_is ∙ sym (open_same t e plain);
     once = subst IsOnce (sym (established_same t e plain.undrawn)) was.once;

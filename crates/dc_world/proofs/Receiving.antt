@@ -386,6 +386,7 @@ module _ (h : Header) (policies : ℕ) (t : List Entry) (w : WorldState) (sound 
       reversed Ul = refl
       reversed Dl = refl
 
+      -- its confirm is one of the bearer
       the_ack : IsAckOf t' s' d (flight.Ack b.id b.g num)
       the_ack = record {
         bearer = b;
@@ -396,6 +397,7 @@ module _ (h : Header) (policies : ℕ) (t : List Entry) (w : WorldState) (sound 
         is = refl;
       }
 
+      -- so its promise holds
       promise : (k : Dir) → k ≡ d → PromiseOf h t' s' (leg (other k), flight.Ack b.id b.g num)
       promise Ul is_d = inr (subst (λ k. IsAckOf t' s' k (flight.Ack b.id b.g num)) (sym is_d) the_ack)
       promise Dl is_d = inr (subst (λ k. IsAckOf t' s' k (flight.Ack b.id b.g num)) (sym is_d) the_ack)

@@ -1,11 +1,11 @@
 -- A payload is submitted and taken.
 use Rattle.std.proofs.Common.{ℕ, zero, suc, ◌≡◌, ◌+◌, ◌-◌, ◌^◌, ◌<◌, ◌≤◌, ◌⊎◌, ◌==◌, ◌++◌, List, [], ◌∷◌, Some, None, true, false, length, slice_get, refl, sym, ap, ◌∙◌, subst, arith, inl, inr}
-use Rattle.std.specs.Prelude.{Contains, Ok, nat_le, if◌then◌else◌}
+use Rattle.std.specs.Prelude.{Contains, Ok, if◌then◌else◌}
 use Rattle.std.specs.List.{flat_map}
 use Rattle.std.proofs.lemmas.List.{append-nil, length_push}
 use Rattle.std.proofs.lemmas.List.FromFn.{length-range_with_len}
 use Rattle.std.proofs.lemmas.Option.{none-some}
-use Rattle.std.proofs.lemmas.Bool.{cases_Bool, cases_lt, eqb-true, eq-eqb, ne_eqb, cond-false, cond-true}
+use Rattle.std.proofs.lemmas.Bool.{lt-leb, cases_Bool, cases_lt, eqb-true, eq-eqb, ne_eqb, cond-false, cond-true}
 use Rattle.std.proofs.lemmas.Bool.Decides.{nat_tests}
 use Rattle.dc_base.specs.Count.{window, sn}
 use Rattle.dc_base.specs.declared.nodes.Dir.{Dir}
@@ -76,10 +76,6 @@ promised h t s Ul f pdu = inl pdu
 under_way_last : (b : Established) (c : ℕ) (fs : List Flight) (f : Flight) → IsUnderWay b c (f ∷ []) → IsUnderWay b c (fs ++ f ∷ [])
 under_way_last b c [] f under = under
 under_way_last b c (x ∷ fs) f under = inr (under_way_last b c fs f under)
-
--- a test that fails
-not_le : (m n : ℕ) → n < m → nat_le m n ≡ false
-not_le m n less = grind (arith, nat_tests)
 
 module _ (h : Header) (policies : ℕ) (t : List Entry) (w : WorldState) (sound : Sound h policies t w) where
   -- a bearer that can be submitted to is not the one whose command is open
@@ -324,7 +320,7 @@ module _ (h : Header) (policies : ℕ) (t : List Entry) (w : WorldState) (sound 
         let counted : e.tx.next ≡ b.first + length (submitted b d t) = lane.counted in
         let same : window e.tx.n ≡ window b.n = ap window lane.tx_length in
         let told_is : low e.tx ≡ told b d t = low_is b.n b.first (submitted b d t) (confirmed b d t) e.tx e.sent (half b (receiver_table d w.nodes)).rx lane in
-        cond-false _ _ _ (not_le (told b d t + window b.n) next (omega arith)) ∙ cond-false _ _ _ (ne_eqb next (2 ^ 32 - 1) (λ is. left (omega arith)))
+        cond-false _ _ _ (lt-leb (told b d t + window b.n) next (omega arith)) ∙ cond-false _ _ _ (ne_eqb next (2 ^ 32 - 1) (λ is. left (omega arith)))
 
     -- the PDU is sent for its submission
     licence : IsLicensed h t entry
