@@ -20,7 +20,7 @@ use Rattle.dc_base.specs.declared.nodes.Shape.{Shape}
 use Rattle.dc_base.specs.declared.flights.Flight.{Flight}
 use Rattle.dc_base.specs.declared.flights.Flight.TheVariants as flight
 use Rattle.dc_base.specs.declared.records.Rec.{Rec}
-use Rattle.dc_base.specs.declared.records.Rec.TheVariants.{Reconf, Rcomp}
+use Rattle.dc_base.specs.declared.records.Rec.TheVariants.{Reconf, Rcomp, Recov, Recovd}
 use Rattle.dc_base.specs.declared.answers.Answer.TheVariants as answer
 use Rattle.dc_base.specs.declared.answers.Answer.TheVariants.{No}
 use Rattle.dc_base.specs.declared.answers.Refusal.{Refusal}
@@ -37,19 +37,21 @@ use Rattle.pdcp_tx.specs.declared.tx.TxErr.{TxErr}
 use Rattle.pdcp_tx.specs.declared.tx.TxErr.TheVariants as refused
 use Rattle.transcript.specs.Transcript.{Entry}
 use Rattle.transcript.specs.Content.{content, link, link_number, all_links, first_loaded, mt_ctl, tm_ctl, place_taken}
-use Rattle.transcript.specs.Bearers.{Established, established, latest, open_command, unless_opening, is_opening, at_master, at_submitter, submitted, told}
-use Rattle.transcript.specs.Claims.{is_mm, is_ordered, is_tunnel, bearer_answer, submit_answer, step_answer, tunnel_answer, IsDataFlight, IsOneUse, IsFaithful}
+use Rattle.transcript.specs.Bearers.{Established, OpenCommand, change, recovery, established, latest, open_command, unless_opening, is_opening, at_master, at_node, submitter, at_submitter, submitted, told}
+use Rattle.transcript.specs.Claims.{is_mm, is_ordered, is_tunnel, bearer_answer, recover_answer, submit_answer, step_answer, tunnel_answer, IsDataFlight, IsOneUse, IsFaithful}
 use Rattle.transcript.proofs.OnEach.{each_at}
 use Rattle.transcript.proofs.Establishing.{IsOnce, same_bearer, generation_there}
 use Rattle.dc_world.specs.Entities.{Entities, Table, bearer_in, with_bearer}
-use Rattle.dc_world.specs.Plane.{Outcome, leg, other, numbered_as, air_taken, is_aged, submitted as submitted_in}
-use Rattle.dc_world.specs.Control.{Nodes, new_nodes, set_up, commanded, told_terminal, told_master, is_open}
+use Rattle.dc_world.specs.Plane.{Outcome, reports, leg, other, numbered_as, air_taken, is_aged, submitted as submitted_in}
+use Rattle.dc_world.specs.Control.{Nodes, new_nodes, set_up, commanded, told_terminal, told_master, is_change, unless_open, recovered, recovery_commanded}
 use Rattle.dc_world.specs.Links.{on, moved, first_nonempty}
-use Rattle.dc_world.specs.Run.{WorldState, new_world, IsGood, is_built, unless_open, table_at, taken_from, stepped, tunnelled, tunnelled_at, decided, happen, entry_of, world_after, entries_from}
-use Rattle.dc_world.proofs.Sound.{or_fresh, half, sender_table, receiver_table, IsPduOf, IsAckOf, Promise, Phase, idle, Happened, Sound, commanded as phase_commanded, answered as phase_answered}
+use Rattle.dc_world.specs.Run.{WorldState, new_world, IsGood, is_built, reported_by, report_of, table_at, taken_from, stepped, tunnelled, tunnelled_at, decided, happen, entry_of, world_after, entries_from}
+use Rattle.dc_world.proofs.Sound.{or_fresh, half, sender_table, receiver_table, IsAckOf, OnLeg, a_pdu, a_report, an_ack, Promise, Phase, idle, Happened, Sound, commanded as phase_commanded, answered as phase_answered, recovering as phase_recovering, recovered as phase_recovered}
 use Rattle.dc_world.proofs.Tables.{with_sender, with_receiver, is_established}
 use Rattle.dc_world.proofs.Assembly.{sound_next, served_told}
 use Rattle.dc_world.proofs.Refusing.{refused_happened}
+use Rattle.dc_world.proofs.Reporting.{reports_happened, report_happened}
+use Rattle.dc_world.proofs.Recovering.{recover_happened}
 use Rattle.dc_world.proofs.SettingUp.{set_up_happened, told_terminal_happened, told_master_happened}
 use Rattle.dc_world.proofs.Submitting.{submitted_happened}
 use Rattle.dc_world.proofs.Receiving.{data_happened, aged_happened}
@@ -108,7 +110,7 @@ module _ (h : Header) (policies : ℕ) (t : List Entry) (w : WorldState) (sound 
       → No why ≡ bearer_answer policies t id shape policy → Next (Bearer id n first shape threshold policy) (w.nodes, (No why, []))
   refuse_bearer id n first shape threshold policy why none due =
       next (Bearer id n first shape threshold policy) (w.nodes, (No why, []))
-      (refused_happened h policies t w sound (Bearer id n first shape threshold policy) why (λ g. refl) refl (λ b d c. refl) refl none due)
+      (refused_happened h policies t w sound (Bearer id n first shape threshold policy) why (λ g. refl) refl (λ g o. refl) (λ b d c. refl) refl none due)
 
   -- what the master has of an identity is what the transcript says
   at_master_is : (id : ℕ) → at_master id t ≡ option_map (λ e. e.bearer) (unless_open w.nodes.busy (bearer_in w.nodes.master id))
@@ -117,20 +119,21 @@ module _ (h : Header) (policies : ℕ) (t : List Entry) (w : WorldState) (sound 
       ∙ ap (unless_opening w.nodes.busy) (sym (sound.tables.master_is id))
       ∙ mapped w.nodes.busy (bearer_in w.nodes.master id)
     where
-      opening_is : (g : Option ℕ) (e : Entities) → is_opening g e.bearer ≡ is_open g e.bearer.g
+      opening_is : (g : Option OpenCommand) (e : Entities) → is_opening g e.bearer ≡ is_change g e.bearer.g
       opening_is None e = refl
-      opening_is (Some g) e = refl
+      opening_is (Some (change g)) e = refl
+      opening_is (Some (recovery id)) e = refl
 
       -- what is open is so of the bearer alone
-      mapped : (g : Option ℕ) (o : Option Entities) → unless_opening g (option_map (λ e. e.bearer) o) ≡ option_map (λ e. e.bearer) (unless_open g o)
+      mapped : (g : Option OpenCommand) (o : Option Entities) → unless_opening g (option_map (λ e. e.bearer) o) ≡ option_map (λ e. e.bearer) (unless_open g o)
       mapped g None = refl
-      mapped g (Some e) = rw (opening_is g e) (elim (cases_Bool (is_open g e.bearer.g)) [ inl yes' ↦ rw yes' refl | inr no' ↦ rw no' refl ])
+      mapped g (Some e) = rw (opening_is g e) (elim (cases_Bool (is_change g e.bearer.g)) [ inl yes' ↦ rw yes' refl | inr no' ↦ rw no' refl ])
 
   -- with no command open that is all that it has
   idle_has : (id : ℕ) → is_some w.nodes.busy ≡ false → is_some (at_master id t) ≡ is_some (bearer_in w.nodes.master id)
   idle_has id free = ap (λ (o : Option Established). is_some o) (at_master_is id) ∙ is_some_map (unless_open w.nodes.busy (bearer_in w.nodes.master id)) ∙ unopened w.nodes.busy free (bearer_in w.nodes.master id)
     where
-      unopened : (g : Option ℕ) → is_some g ≡ false → (o : Option Entities) → is_some (unless_open g o) ≡ is_some o
+      unopened : (g : Option OpenCommand) → is_some g ≡ false → (o : Option Entities) → is_some (unless_open g o) ≡ is_some o
       unopened None free None = refl
       unopened None free (Some e) = refl
       unopened (Some g) free o = absurd cc
@@ -140,7 +143,7 @@ module _ (h : Header) (policies : ℕ) (t : List Entry) (w : WorldState) (sound 
       → Next (Bearer id n first shape threshold policy) (commanded policies h w.nodes id n first shape threshold policy)
   bearer_sound id n first shape threshold policy small short =
       let e = Bearer id n first shape threshold policy in
-      let same : is_some (open_command t) ≡ is_some w.nodes.busy = ap (λ (o : Option ℕ). is_some o) (sym sound.tables.busy_is) in
+      let same : is_some (open_command t) ≡ is_some w.nodes.busy = ap (λ (o : Option OpenCommand). is_some o) (sym sound.tables.busy_is) in
       cond_both (is_some w.nodes.busy) (w.nodes, (No Busy, [])) _ (Next e)
       (λ busy. refuse_bearer id n first shape threshold policy Busy refl (sym (cond-true _ _ _ (same ∙ busy))))
       (λ free.
@@ -176,9 +179,9 @@ module _ (h : Header) (policies : ℕ) (t : List Entry) (w : WorldState) (sound 
   serving_in : (d : Dir) (id : ℕ) (e : Entities) → serving d id ≡ Some e → bearer_in (sender_table d w.nodes) id ≡ Some e
   serving_in Dl id e is = opened w.nodes.busy (bearer_in w.nodes.master id) is
     where
-      opened : (g : Option ℕ) (o : Option Entities) → unless_open g o ≡ Some e → o ≡ Some e
+      opened : (g : Option OpenCommand) (o : Option Entities) → unless_open g o ≡ Some e → o ≡ Some e
       opened g None is = absurd cc
-      opened g (Some x) is = elim (cases_Bool (is_open g x.bearer.g)) [ inl yes' ↦ (let e = rw yes' at is in absurd (cc (e))) | inr no' ↦ (let e = rw no' at is in e) ]
+      opened g (Some x) is = elim (cases_Bool (is_change g x.bearer.g)) [ inl yes' ↦ (let e = rw yes' at is in absurd (cc (e))) | inr no' ↦ (let e = rw no' at is in e) ]
   serving_in Ul id e is = is
 
   -- a submission that is refused
@@ -186,7 +189,7 @@ module _ (h : Header) (policies : ℕ) (t : List Entry) (w : WorldState) (sound 
       → No why ≡ submit_answer d t (at_submitter d id t) → Next (Submit id d payload) (w.nodes, (No why, []))
   refuse_submission id d payload why none due =
       next (Submit id d payload) (w.nodes, (No why, []))
-      (refused_happened h policies t w sound (Submit id d payload) why (λ g. refl) refl (λ b d c. refl) refl none due)
+      (refused_happened h policies t w sound (Submit id d payload) why (λ g. refl) refl (λ g o. refl) (λ b d c. refl) refl none due)
 
   module _ (id : ℕ) (d : Dir) (payload : List ℕ) (good : IsPayload payload) where
     abbrev decision : Table × Outcome → Nodes × Outcome
@@ -244,7 +247,7 @@ module _ (h : Header) (policies : ℕ) (t : List Entry) (w : WorldState) (sound 
       → Next (Step l i) (w.nodes, (No why, []))
   refuse_step l i why none due =
       next (Step l i) (w.nodes, (No why, []))
-      (refused_happened h policies t w sound (Step l i) why (λ g. refl) refl (λ b d c. refl) refl none due)
+      (refused_happened h policies t w sound (Step l i) why (λ g. refl) refl (λ g o. refl) (λ b d c. refl) refl none due)
 
   -- on a link that keeps its order only the first place is left
   first_place : (i : ℕ) → nat_lt 0 i ≡ false → i ≡ 0
@@ -258,8 +261,10 @@ module _ (h : Header) (policies : ℕ) (t : List Entry) (w : WorldState) (sound 
   -- what stands on the control links
   records : Phase h t w.nodes w.links → HasRecord (on w.links mt_ctl) × HasRecord (on w.links tm_ctl)
   records (idle free reconf rcomp all) = (inl reconf, inl rcomp)
-  records (phase_commanded b there shape threshold policy busy reconf rcomp unused lacks others) = (inr (Reconf _ h.root, reconf), inl rcomp)
+  records (phase_commanded b there shape threshold policy busy reconf rcomp unused unsent lacks others) = (inr (Reconf _ h.root, reconf), inl rcomp)
   records (phase_answered b there busy reconf rcomp all) = (inl reconf, inr (Rcomp b.g, rcomp))
+  records (phase_recovering b there busy recov recovd all) = (inr (Recov b.id, recov), inl recovd)
+  records (phase_recovered b there busy recov recovd all) = (inl recov, inr (Recovd b.id, recovd))
 
   -- no record is aged
   young_record : (fs : List Flight) (f : Flight) (table : Table) → HasRecord fs → slice_get fs 0 ≡ Some f → is_aged table f ≡ false
@@ -279,19 +284,21 @@ module _ (h : Header) (policies : ℕ) (t : List Entry) (w : WorldState) (sound 
       else if is_aged (table_at to w.nodes) f then (w.nodes, (No Aged, [])) else given from to class f
 
   -- a flight on a leg, in its direction
-  on_leg : (d : Dir) (i : ℕ) (f : Flight) → slice_get (on w.links (leg d)) i ≡ Some f → IsPduOf h t d f ⊎ IsAckOf t w.nodes (other d) f
+  on_leg : (d : Dir) (i : ℕ) (f : Flight) → slice_get (on w.links (leg d)) i ≡ Some f → OnLeg h t w.nodes d f
       → Next (Step (leg d) i) (if is_aged (receiver_table d w.nodes) f then (w.nodes, (No Aged, []))
       else (let done = air_taken h d (receiver_table d w.nodes) f in (with_receiver d w.nodes done.0, (answer.Ok, done.1))))
   on_leg d i f at promise =
       let taken' : Nodes × Outcome = (let done = air_taken h d (receiver_table d w.nodes) f in (with_receiver d w.nodes done.0, (answer.Ok, done.1))) in
       cond_both (is_aged (receiver_table d w.nodes) f) (w.nodes, (No Aged, [])) taken' (Next (Step (leg d) i))
       (λ old. next (Step (leg d) i) (w.nodes, (No Aged, [])) (elim promise [
-        | inl pdu ↦ aged_happened h policies t w sound d i f at pdu old
-        | inr ack ↦ absurd (let no : is_aged (receiver_table d w.nodes) f ≡ false = ap (is_aged (receiver_table d w.nodes)) ack.is in cc)
+        | a_pdu pdu ↦ aged_happened h policies t w sound d i f at pdu old
+        | a_report report ↦ absurd (let no : is_aged (receiver_table d w.nodes) f ≡ false = ap (is_aged (receiver_table d w.nodes)) report.is in cc)
+        | an_ack ack ↦ absurd (let no : is_aged (receiver_table d w.nodes) f ≡ false = ap (is_aged (receiver_table d w.nodes)) ack.is in cc)
       ]))
       (λ young. next (Step (leg d) i) taken' (elim promise [
-        | inl pdu ↦ data_happened h policies t w sound d i f at pdu young
-        | inr ack ↦ acked d i at ack
+        | a_pdu pdu ↦ data_happened h policies t w sound d i f at pdu young
+        | a_report report ↦ report_happened h policies t w sound d i f at report
+        | an_ack ack ↦ acked d i at ack
       ]))
     where
       acked : (d : Dir) (i : ℕ) → slice_get (on w.links (leg d)) i ≡ Some f → IsAckOf t w.nodes (other d) f
@@ -322,7 +329,7 @@ module _ (h : Header) (policies : ℕ) (t : List Entry) (w : WorldState) (sound 
       → Next (Step (link from to class) i) (judged from to class i f)
   step_at M T Air i f at promise = on_leg Dl i f at promise
   step_at T M Air i f at promise = on_leg Ul i f at promise
-  step_at M T Ctl i f at promise = control_step mt_ctl refl i f (λ f. told_terminal w.nodes f) w.nodes.terminal at (records sound.phase).0 (λ f at. told_terminal_happened h policies t w sound f at)
+  step_at M T Ctl i f at promise = control_step mt_ctl refl i f (λ f. told_terminal h w.nodes f) w.nodes.terminal at (records sound.phase).0 (λ f at. told_terminal_happened h policies t w sound f at)
   step_at T M Ctl i f at promise = control_step tm_ctl refl i f (λ f. told_master w.nodes f) w.nodes.master at (records sound.phase).1 (λ f at. told_master_happened h policies t w sound f at)
   step_at M T Feed i f at promise = absurd promise
   step_at M T Tun i f at promise = absurd promise
@@ -371,18 +378,73 @@ module _ (h : Header) (policies : ℕ) (t : List Entry) (w : WorldState) (sound 
           absurd (no_tunnel h t w.nodes l.from l.to f
           (subst (λ c. Promise h t w.nodes l.from l.to c f) (tun_is l.class tunnel) (each_at (Promise h t w.nodes l.from l.to l.class) (on w.links l) i f (sound.promises l) at)))
 
+  -- ---- a recovery, and a report
+
+  -- nothing is there where not something is
+  none_from : (o : Option Established) → o ≡ None → is_some o ≡ false
+  none_from o none = ap (λ (x : Option Established). is_some x) none
+
+  -- a recovery is commanded, or refused
+  recover_sound : (id : ℕ) → Next (Recover id) (recovery_commanded h w.nodes id)
+  recover_sound id =
+      let same : is_some (open_command t) ≡ is_some w.nodes.busy = ap (λ (o : Option OpenCommand). is_some o) (sym sound.tables.busy_is) in
+      cond_both (is_some w.nodes.busy) (w.nodes, (No Busy, [])) (recovered h w.nodes id (unless_open w.nodes.busy (bearer_in w.nodes.master id))) (Next (Recover id))
+      (λ busy. refuse Busy (sym (cond-true _ _ _ (same ∙ busy))))
+      (λ free. found free (unless_open w.nodes.busy (bearer_in w.nodes.master id)) refl)
+    where
+      refuse : (why : Refusal) → No why ≡ recover_answer t (at_master id t) → Next (Recover id) (w.nodes, (No why, []))
+      refuse why due = next (Recover id) (w.nodes, (No why, [])) (refused_happened h policies t w sound (Recover id) why (λ g. refl) refl (λ g o. refl) (λ b d c. refl) refl refl due)
+
+      found : is_some w.nodes.busy ≡ false → (o : Option Entities) → unless_open w.nodes.busy (bearer_in w.nodes.master id) ≡ o → Next (Recover id) (recovered h w.nodes id o)
+      found free None is =
+          let none : at_master id t ≡ None = at_master_is id ∙ ap (option_map (λ (x : Entities). x.bearer)) is in
+          let idle' : is_some (open_command t) ≡ false = ap (λ (o : Option OpenCommand). is_some o) (sym sound.tables.busy_is) ∙ free in
+          refuse NoBearer (sym (cond-false _ _ _ idle' ∙ cond-false _ _ _ (none_from (at_master id t) none)))
+      found free (Some e) is = next (Recover id) (recovered h w.nodes id (Some e)) (recover_happened h policies t w sound id e free is)
+
+  -- a report is sent, or refused
+  report_sound : (node : Node) (id : ℕ) → Next (Report node id) (report_of w.nodes node id)
+  report_sound node id = at node
+    where
+      refuse : (node : Node) → at_node node id t ≡ None → Next (Report node id) (w.nodes, (No NoBearer, []))
+      refuse node none =
+          next (Report node id) (w.nodes, (No NoBearer, []))
+          (refused_happened h policies t w sound (Report node id) NoBearer (λ g. refl) refl (λ g o. refl) (λ b d c. refl) refl refl (sym (cond-false _ _ _ (none_from (at_node node id t) none))))
+
+      by : (d : Dir) (o : Option Entities) → serving d id ≡ o
+          → Next (Report (submitter d) id) (let done = reported_by d (sender_table d w.nodes) id o in (with_sender d w.nodes done.0, done.1))
+      by d None is =
+          subst (λ s. Next (Report (submitter d) id) (s, (No NoBearer, []))) (same d)
+          (refuse (submitter d) (serving_is d id ∙ ap (option_map (λ (x : Entities). x.bearer)) is))
+        where
+          same : (d : Dir) → w.nodes ≡ with_sender d w.nodes (sender_table d w.nodes)
+          same Dl = refl
+          same Ul = refl
+      by d (Some e) is =
+          let done = reports d e in
+          next (Report (submitter d) id) (with_sender d w.nodes (with_bearer (sender_table d w.nodes) id (Some done.0)), (answer.Ok, done.1))
+          (reports_happened h policies t w sound d id e (serving_in d id e is) (serving_is d id ∙ ap (option_map (λ (x : Entities). x.bearer)) is))
+
+      at : (node : Node) → Next (Report node id) (report_of w.nodes node id)
+      at M = by Dl (serving Dl id) refl
+      at T = by Ul (serving Ul id) refl
+      at A = refuse A refl
+      at B = refuse B refl
+
   -- ---- any event
 
   -- any event
   decided_sound : (e : Event) → IsGood e → is_built e ≡ true → Next e (decided policies (record w { header = h }) e)
   decided_sound (Bearer id n first shape threshold policy) good built = bearer_sound id n first shape threshold policy good.0 good.1
+  decided_sound (Recover id) good built = recover_sound id
+  decided_sound (Report node id) good built = report_sound node id
   decided_sound (Submit id Dl payload) good built = submit_any id Dl payload good (serving Dl id) refl
   decided_sound (Submit id Ul payload) good built = submit_any id Ul payload good (serving Ul id) refl
   decided_sound (Step l i) good built = step_with l i (slice_get (on w.links l) i) refl
   decided_sound (Lose l i) good built = tunnel_with (Lose l i) l i (λ f. []) (slice_get (on w.links l) i) refl
-      (λ why due. next (Lose l i) (w.nodes, (No why, [])) (refused_happened h policies t w sound (Lose l i) why (λ g. refl) refl (λ b d c. refl) refl refl due))
+      (λ why due. next (Lose l i) (w.nodes, (No why, [])) (refused_happened h policies t w sound (Lose l i) why (λ g. refl) refl (λ g o. refl) (λ b d c. refl) refl refl due))
   decided_sound (Again l i) good built = tunnel_with (Again l i) l i (λ f. line.Send l f ∷ []) (slice_get (on w.links l) i) refl
-      (λ why due. next (Again l i) (w.nodes, (No why, [])) (refused_happened h policies t w sound (Again l i) why (λ g. refl) refl (λ b d c. refl) refl refl due))
+      (λ why due. next (Again l i) (w.nodes, (No why, [])) (refused_happened h policies t w sound (Again l i) why (λ g. refl) refl (λ g o. refl) (λ b d c. refl) refl refl due))
   decided_sound (Reshape id shape) good built = absurd cc
   decided_sound (Remove id) good built = absurd cc
   decided_sound (Add node) good built = absurd cc
@@ -390,8 +452,6 @@ module _ (h : Header) (policies : ℕ) (t : List Entry) (w : WorldState) (sound 
   decided_sound Release good built = absurd cc
   decided_sound RekeySecond good built = absurd cc
   decided_sound (RekeyMaster root) good built = absurd cc
-  decided_sound (Recover id) good built = absurd cc
-  decided_sound (Report node id) good built = absurd cc
   decided_sound (Deny node state) good built = absurd cc
   decided_sound (Ask node what) good built = absurd cc
   decided_sound ScgFail good built = absurd cc
@@ -449,6 +509,7 @@ new_sound h policies = record {
   claims = tt;
   causes = tt;
   licence = tt;
+  no_stall = tt;
 }
 
 -- so is every run from it
@@ -480,6 +541,7 @@ run_faithful policies h es good =
       bearers = sound.claims;
       causes = sound.causes;
       licence = sound.licence;
+      no_stall = sound.no_stall;
       one_use = one_use (entries_from policies (new_world h) es) sound.tables.once;
     }
 
