@@ -1,7 +1,7 @@
 -- The master sets a bearer up.
-use Rattle.std.proofs.Common.{ℕ, ◌≡◌, ◌+◌, ◌-◌, ◌^◌, ◌<◌, ◌≤◌, ◌==◌, ◌⊎◌, ◌++◌, List, [], ◌∷◌, Option, Some, None, true, false, refl, sym, ap, ◌∙◌, subst, arith, inl, inr, append-nil, Bool}
+use Rattle.std.proofs.Common.{ℕ, ◌≡◌, ◌+◌, ◌-◌, ◌^◌, ◌<◌, ◌≤◌, ◌==◌, ◌⊎◌, ◌++◌, List, [], ◌∷◌, Option, Some, None, true, false, refl, sym, ap, ◌∙◌, subst, arith, inl, inr, append-nil, slice_get, Bool}
 use Rattle.std.specs.Prelude.{Contains, nat_le, not, is_some, if◌then◌else◌}
-use Rattle.std.specs.List.{flat_map, list_any}
+use Rattle.std.specs.List.{flat_map}
 use Rattle.std.specs.Option.{option_map}
 use Rattle.std.proofs.lemmas.Bool.{cases_Bool, cond-false, cond-true, eqb-true, eq-eqb, ne_eqb}
 use Rattle.dc_base.specs.declared.numbers.SnLen.{SnLen}
@@ -20,7 +20,7 @@ use Rattle.dc_base.specs.declared.events.Note.TheVariants as note
 use Rattle.pdcp_tx.specs.Sender.{low}
 use Rattle.transcript.specs.Transcript.{Entry}
 use Rattle.transcript.specs.Content.{mt_ctl, tm_ctl}
-use Rattle.transcript.specs.Bearers.{open_command, unless_opening, at_master, master_key, submitted, Established, established, established_by, generation, plans, plan_drawn, latest, is_set, at_terminal, key_in, confirms}
+use Rattle.transcript.specs.Bearers.{change, recovery, OpenCommand, open_command, unless_opening, at_master, master_key, submitted, Established, established, established_by, generation, plans, plan_drawn, latest, is_set, at_terminal, key_in, confirms}
 use Rattle.transcript.specs.Claims.{is_mm, IsLicensed, HasCause}
 use Rattle.dc_world.specs.Entities.{fresh, bearer_in, with_bearer}
 use Rattle.dc_world.specs.Plane.{leg}
@@ -33,8 +33,8 @@ use Rattle.dc_world.proofs.Tables.{bearer_in-same, bearer_in-other, length-with_
 use Rattle.dc_world.proofs.Plain.{none_mapped}
 use Rattle.dc_world.proofs.Served.{served_still}
 use Rattle.dc_world.proofs.Silent.{no_ups, no_frees, no_move, none_carried, none_sent_still, grows_same, IsSilent, submitted_same, handed_same, confirmed_same, tags_same}
-use Rattle.dc_world.proofs.Bare.{IsBare, fresh_bare, bare_served}
-use Rattle.dc_world.proofs.Sound.{or_fresh, half, sender_table, receiver_table, IsUnderWay, IsServed, AllConfigured, Phase, idle as phase_idle, commanded as phase_commanded, answered as phase_answered, IsTabled, Happened, Sound}
+use Rattle.dc_world.proofs.Bare.{fresh_served}
+use Rattle.dc_world.proofs.Sound.{or_fresh, half, sender_table, receiver_table, IsUnderWay, IsServed, AllConfigured, Phase, idle as phase_idle, commanded as phase_commanded, answered as phase_answered, recovering as phase_recovering, recovered as phase_recovered, IsTabled, Happened, Sound}
 
 -- nothing is there
 is_none : {A : Type 0} (o : Option A) → is_some o ≡ false → o ≡ None
@@ -60,7 +60,7 @@ module _ (h : Header) (policies : ℕ) (t : List Entry) (w : WorldState) (sound 
 
   -- the nodes after it
   abbrev pub began_nodes : Nodes
-  began_nodes = record w.nodes { drawn = w.nodes.drawn + 1; busy = Some (w.nodes.drawn + 1); master = with_bearer w.nodes.master id (Some (fresh new_one)) }
+  began_nodes = record w.nodes { drawn = w.nodes.drawn + 1; busy = Some (change (w.nodes.drawn + 1)); master = with_bearer w.nodes.master id (Some (fresh new_one)) }
 
   -- the transcript after it
   abbrev after_began : List Entry
@@ -88,7 +88,7 @@ module _ (h : Header) (policies : ℕ) (t : List Entry) (w : WorldState) (sound 
 
   -- its send has its reason
   began_licence : IsLicensed h t began
-  began_licence = record { reasons = (record { drawn = began_plan; keyed = refl; to_terminal = refl }, tt); one = omega arith }
+  began_licence = record { reasons = (record { drawn = began_plan; keyed = refl; to_terminal = refl }, tt); ascends = tt; one = omega arith }
 
   -- the bearer is one more
   began_established : established after_began ≡ established t ++ new_one ∷ []
@@ -219,7 +219,7 @@ module _ (h : Header) (policies : ℕ) (t : List Entry) (w : WorldState) (sound 
           terminal_is = began_terminal_is;
           set_is = λ k. began_set k ∙ tables.set_is k;
           drawn_is = sym began_generation;
-          busy_is = ap (λ g. Some (g + 1)) tables.drawn_is ∙ sym (open_command-next t began);
+          busy_is = ap (λ g. Some (change (g + 1))) tables.drawn_is ∙ sym (open_command-next t began);
           once = subst IsOnce (sym began_established) (once-push (established t) new_one tables.once not_established);
           ranged = began_ranged;
           keyed = began_keyed;
@@ -270,11 +270,11 @@ module _ (h : Header) (policies : ℕ) (t : List Entry) (w : WorldState) (sound 
 
     -- it is served
     new_served : (d : Dir) → IsServed after_began began_nodes links_began new_one d
-    new_served d = bare_served after_began began_nodes links_began new_one d short (new_unsubmitted d)
+    new_served d = fresh_served after_began began_nodes links_began new_one d short (new_unsubmitted d)
         (handed_same t began began_silent new_one d ∙ none_handed new_one d t later)
+        (confirmed_same t began began_silent new_one d ∙ none_confirmed new_one d t later)
         (λ num. tags_same t began began_silent (leg d) new_one.id new_one.g num ∙ sound.none_sent (leg d) new_one.id new_one.g num later)
-        (λ c le. ap (list_any (λ x. x == c)) (confirmed_same t began began_silent new_one d ∙ none_confirmed new_one d t later))
-        (subst (λ e. IsBare new_one e.tx e.sent) (sym (new_half d)) (fresh_bare new_one)) (ap (λ e. e.rx) (new_receiver_half d))
+        (new_half d) (new_receiver_half d)
 
     -- so every bearer is served
     began_served : (c : Established) (d : Dir) → Contains (established after_began) c → IsServed after_began began_nodes links_began c d
@@ -299,14 +299,16 @@ module _ (h : Header) (policies : ℕ) (t : List Entry) (w : WorldState) (sound 
       | phase_idle none plans answers all ↦ phase_commanded new_one began_there shape threshold policy refl
           (on_moved w.links None began.lines mt_ctl sound.long ∙ ap (λ fs. fs ++ flight.Ctl (Reconf its_plan h.root) ∷ []) plans)
           (on_moved w.links None began.lines tm_ctl sound.long ∙ ap (λ fs. fs ++ []) answers)
-          new_unsubmitted not_at_terminal (only_new all)
-      | phase_commanded b there shape threshold policy busy plans answers none lacks only ↦ absurd (is_busy b.g busy)
-      | phase_answered b there busy plans answers all ↦ absurd (is_busy b.g busy)
+          new_unsubmitted (ap (λ e. e.sent) (new_half Dl)) not_at_terminal (only_new all)
+      | phase_commanded b there shape threshold policy busy plans answers none unsent lacks only ↦ absurd (is_busy (change b.g) busy)
+      | phase_answered b there busy plans answers all ↦ absurd (is_busy (change b.g) busy)
+      | phase_recovering b there busy plans answers all ↦ absurd (is_busy (recovery b.id) busy)
+      | phase_recovered b there busy plans answers all ↦ absurd (is_busy (recovery b.id) busy)
     ]
       where
         -- no command was
-        is_busy : (g : ℕ) → w.nodes.busy ≡ Some g → ⊥
-        is_busy g busy = let some : is_some w.nodes.busy ≡ true = ap (λ o. is_some o) busy in cc
+        is_busy : (c : OpenCommand) → w.nodes.busy ≡ Some c → ⊥
+        is_busy c busy = let some : is_some w.nodes.busy ≡ true = ap (λ o. is_some o) busy in cc
 
     -- it is new, or was there before
     began_before : (c : Established) → Contains (established after_began) c
@@ -324,7 +326,8 @@ module _ (h : Header) (policies : ℕ) (t : List Entry) (w : WorldState) (sound 
           tables = began_tables;
           phase = began_phase;
           served = began_served;
-          grows = grows_same t began w.nodes began_nodes began_on (λ c d is. ap (λ e. e.rx) (began_receiver c d (began_on c is)));
+          grows = grows_same t began w.nodes began_nodes began_on (λ c d is. ap (λ e. e.rx) (began_receiver c d (began_on c is)))
+              (λ c d is num o at. subst (λ e. slice_get e.sent num ≡ Some o) (sym (began_sender c d (began_on c is))) at);
           sent = (tt, tt);
           none_sent = none_sent_still t began silent.tags sound.none_sent;
           protects = λ c d is. ((λ is_data. absurd is_data), tt);

@@ -1,8 +1,8 @@
 -- The master takes that the terminal did.
-use Rattle.std.proofs.Common.{ℕ, ◌≡◌, ◌++◌, List, [], ◌∷◌, Some, None, true, slice_get, refl, sym, ap, ◌∙◌, subst, append-nil, inr}
+use Rattle.std.proofs.Common.{ℕ, ◌≡◌, ◌++◌, List, [], ◌∷◌, Some, None, slice_get, refl, sym, ap, ◌∙◌, subst, append-nil, inr}
 use Rattle.std.specs.Prelude.{Contains, if◌then◌else◌}
 use Rattle.std.specs.List.{remove}
-use Rattle.std.proofs.lemmas.Bool.{cond-true, eq-eqb}
+use Rattle.std.proofs.lemmas.Bool.{eq-eqb}
 use Rattle.dc_base.specs.declared.nodes.Dir.{Dir}
 use Rattle.dc_base.specs.declared.nodes.Dir.TheVariants.{Ul, Dl}
 use Rattle.dc_base.specs.declared.flights.Flight.TheVariants as flight
@@ -14,10 +14,10 @@ use Rattle.dc_base.specs.declared.events.Line.TheVariants as line
 use Rattle.dc_base.specs.declared.events.Note.TheVariants as note
 use Rattle.transcript.specs.Transcript.{Entry}
 use Rattle.transcript.specs.Content.{mt_ctl, tm_ctl, given}
-use Rattle.transcript.specs.Bearers.{Established, established, latest, is_set, key_in, confirms, confirmed_by}
+use Rattle.transcript.specs.Bearers.{change, Established, established, latest, is_set, key_in, confirms, confirmed_by}
 use Rattle.transcript.specs.Claims.{HasCause}
 use Rattle.dc_world.specs.Plane.{leg}
-use Rattle.dc_world.specs.Control.{Nodes, is_open, told_master}
+use Rattle.dc_world.specs.Control.{Nodes, is_change, ends, told_master}
 use Rattle.dc_world.specs.Links.{Links, on, moved}
 use Rattle.dc_world.specs.Run.{WorldState}
 use Rattle.transcript.proofs.Establishing.{open_command-next, is_set-next, IsOnce}
@@ -74,7 +74,7 @@ module _ (h : Header) (policies : ℕ) (t : List Entry) (w : WorldState) (sound 
       submits = λ c d. refl;
       hands = λ c d. no_ups c d t completed refl;
       moves = λ c d. no_frees c d t completed refl;
-      confirms = λ c d. elim d as (λ d. confirms c d t completed ≡ []) [ Ul ↦ refl | Dl ↦ ap (confirmed_by c t) completed_given ];
+      confirms = λ c d. elim d as (λ d. confirms c d t completed ≡ []) [ Ul ↦ ap (confirmed_by c Ul t) completed_given | Dl ↦ ap (confirmed_by c Dl t) completed_given ];
       tags = λ l id g num. refl;
     }
 
@@ -106,7 +106,5 @@ module _ (h : Header) (policies : ℕ) (t : List Entry) (w : WorldState) (sound 
         undrawn completed_tables (completed_phase empty all) (λ c d is count way. inr (subst (IsUnderWay c count) (sym (air_completed d)) way)) completed_cause
 
   -- what the master does with the answer to its open command
-  pub told_done : w.nodes.busy ≡ Some b.g → told_master w.nodes (flight.Ctl (Rcomp b.g)) ≡ (completed_nodes, completed.lines)
-  told_done busy =
-      let is_own : is_open w.nodes.busy b.g ≡ true = ap (λ o. is_open o b.g) busy ∙ eq-eqb b.g b.g refl in
-      cond-true (is_open w.nodes.busy b.g) (completed_nodes, completed.lines) (w.nodes, []) is_own
+  pub told_done : w.nodes.busy ≡ Some (change b.g) → told_master w.nodes (flight.Ctl (Rcomp b.g)) ≡ (completed_nodes, completed.lines)
+  told_done busy = ap (λ o. ends w.nodes (is_change o b.g)) busy ∙ ap (ends w.nodes) (eq-eqb b.g b.g refl)

@@ -1,7 +1,7 @@
 -- The terminal takes the plan of a bearer.
-use Rattle.std.proofs.Common.{◌≤◌, ℕ, ◌≡◌, ◌==◌, ◌⊎◌, ◌++◌, List, [], ◌∷◌, Some, None, true, false, slice_get, refl, sym, ap, ◌∙◌, subst, arith, inl, inr, append-nil}
+use Rattle.std.proofs.Common.{ℕ, ◌≡◌, ◌==◌, ◌++◌, List, [], ◌∷◌, Some, None, true, false, slice_get, refl, sym, ap, ◌∙◌, subst, arith, inl, inr, append-nil}
 use Rattle.std.specs.Prelude.{Contains, is_some, if◌then◌else◌}
-use Rattle.std.specs.List.{remove, list_any}
+use Rattle.std.specs.List.{remove}
 use Rattle.std.specs.Option.{option_map}
 use Rattle.std.proofs.lemmas.Bool.{cases_Bool, cond-false, cond-true, eqb-true, eqb-false}
 use Rattle.dc_base.specs.declared.nodes.Dir.{Dir}
@@ -18,7 +18,7 @@ use Rattle.dc_base.specs.declared.events.Note.TheVariants as note
 use Rattle.pdcp_tx.specs.Sender.{low}
 use Rattle.transcript.specs.Transcript.{Entry}
 use Rattle.transcript.specs.Content.{mt_ctl, tm_ctl, given}
-use Rattle.transcript.specs.Bearers.{submitted, handed, confirmed, tags_sent, Established, established, latest, is_set, at_terminal, key_in, confirms, confirmed_by}
+use Rattle.transcript.specs.Bearers.{change, Established, established, latest, is_set, at_terminal, key_in, confirms, confirmed_by}
 use Rattle.transcript.specs.Claims.{IsLicensed, HasCause}
 use Rattle.dc_world.specs.Entities.{fresh, bearer_in, with_bearer}
 use Rattle.dc_world.specs.Plane.{leg}
@@ -30,8 +30,7 @@ use Rattle.dc_world.proofs.Contents.{on_moved, step_given, step_due}
 use Rattle.dc_world.proofs.Tables.{bearer_in-same, bearer_in-other, length-with_bearer}
 use Rattle.dc_world.proofs.Plain.{IsUndrawn, plans_same, established_same, generation_same, there_then, there_before}
 use Rattle.dc_world.proofs.Served.{served_still}
-use Rattle.dc_world.proofs.Silent.{no_ups, no_frees, no_move, none_carried, none_sent_still, grows_same, IsSilent, submitted_same, handed_same, confirmed_same, tags_same}
-use Rattle.dc_world.proofs.Bare.{IsBare, fresh_bare, bare_low, bare_served, none_yet}
+use Rattle.dc_world.proofs.Silent.{no_ups, no_frees, no_move, none_carried, none_sent_still, grows_same, IsSilent}
 use Rattle.dc_world.proofs.Sound.{or_fresh, half, sender_table, receiver_table, IsUnderWay, IsServed, AllConfigured, Phase, answered as phase_answered, IsTabled, Happened, Sound}
 
 module _ (h : Header) (policies : ℕ) (t : List Entry) (w : WorldState) (sound : Sound h policies t w) (b : Established) (there : Contains (established t) b) (shape : Shape) (threshold policy : ℕ) where
@@ -62,7 +61,7 @@ module _ (h : Header) (policies : ℕ) (t : List Entry) (w : WorldState) (sound 
       submits = λ c d. refl;
       hands = λ c d. no_ups c d t configured refl;
       moves = λ c d. no_frees c d t configured refl;
-      confirms = λ c d. elim d as (λ d. confirms c d t configured ≡ []) [ Ul ↦ refl | Dl ↦ ap (confirmed_by c t) configured_given ];
+      confirms = λ c d. elim d as (λ d. confirms c d t configured ≡ []) [ Ul ↦ ap (confirmed_by c Ul t) configured_given | Dl ↦ ap (confirmed_by c Dl t) configured_given ];
       tags = λ l id g num. refl;
     }
 
@@ -70,6 +69,7 @@ module _ (h : Header) (policies : ℕ) (t : List Entry) (w : WorldState) (sound 
     configured_licence : IsLicensed h t configured
     configured_licence = record {
       reasons = (record { plan = plan; root = h.root; is_given = configured_given; same = refl; to_master = refl }, tt);
+      ascends = tt;
       one = omega arith;
     }
 
@@ -137,49 +137,24 @@ module _ (h : Header) (policies : ℕ) (t : List Entry) (w : WorldState) (sound 
         keyed = λ c is. ap (key_in c.g c.id) (plans_same t configured undrawn) ∙ tables.keyed c (there_before t configured undrawn c is);
       }
 
-  -- so it begins with the bearer
-  terminal_half : half b configured_nodes.terminal ≡ fresh b
-  terminal_half = ap (or_fresh b) terminal_has
-
-  -- every other bearer's is the same
-  configured_half : (c : Established) → Contains (established t) c → (c ≡ b) ⊎ (half c configured_nodes.terminal ≡ half c w.nodes.terminal)
-  configured_half c is = elim (cases_Bool (b.id == c.id)) [
-    | inl same ↦ inl (sym (same_bearer (established t) b c sound.tables.once there is (eqb-true b.id c.id same)))
-    | inr apart ↦ inr (ap (or_fresh c) (terminal_other c.id apart))
-  ]
-
-  module _ (none : (d : Dir) → submitted b d t ≡ []) where
-    -- the bearer carried nothing before
-    abbrev before_bare : (d : Dir) → IsBare b (half b (sender_table d w.nodes)).tx (half b (sender_table d w.nodes)).sent × ((half b (receiver_table d w.nodes)).rx ≡ (fresh b).rx)
-        × (handed b d t ≡ []) × ((num : ℕ) → tags_sent (leg d) b.id b.g num t ≡ []) × ((c : ℕ) → b.first ≤ c → list_any (λ x. x == c) (confirmed b d t) ≡ false)
-    before_bare d = none_yet t w.nodes w.links b d (sound.served b d there) (none d)
-
-    -- and carries nothing yet
-    configured_bare : (d : Dir) → IsBare b (half b (sender_table d configured_nodes)).tx (half b (sender_table d configured_nodes)).sent
-    configured_bare Dl = (before_bare Dl).0
-    configured_bare Ul = subst (λ e. IsBare b e.tx e.sent) (sym terminal_half) (fresh_bare b)
-
-    -- its receiving entity is new
-    configured_rx_bare : (d : Dir) → (half b (receiver_table d configured_nodes)).rx ≡ (fresh b).rx
-    configured_rx_bare Dl = ap (λ e. e.rx) terminal_half
-    configured_rx_bare Ul = (before_bare Ul).1
-
-    -- receiving entities are as before
-    configured_rx : (c : Established) (d : Dir) → Contains (established t) c → (half c (receiver_table d configured_nodes)).rx ≡ (half c (receiver_table d w.nodes)).rx
-    configured_rx c Ul is = refl
-    configured_rx c Dl is = elim (configured_half c is) [
-      | inl same ↦ subst (λ c. (half c configured_nodes.terminal).rx ≡ (half c w.nodes.terminal).rx) (sym same) (configured_rx_bare Dl ∙ sym (before_bare Dl).1)
-      | inr same ↦ ap (λ e. e.rx) same
+  module _ (lacks : bearer_in w.nodes.terminal b.id ≡ None) where
+    -- of each bearer the terminal has what it had, or began with
+    configured_half : (c : Established) → Contains (established t) c → half c configured_nodes.terminal ≡ half c w.nodes.terminal
+    configured_half c is = elim (cases_Bool (b.id == c.id)) [
+      | inl same ↦ subst (λ c. half c configured_nodes.terminal ≡ half c w.nodes.terminal) (same_bearer (established t) b c sound.tables.once there is (eqb-true b.id c.id same))
+          (ap (or_fresh b) terminal_has ∙ sym (ap (or_fresh b) lacks))
+      | inr apart ↦ ap (or_fresh c) (terminal_other c.id apart)
     ]
 
-    -- windows are as before
-    configured_low : (c : Established) (d : Dir) → Contains (established t) c → low (half c (sender_table d configured_nodes)).tx ≡ low (half c (sender_table d w.nodes)).tx
-    configured_low c Dl is = refl
-    configured_low c Ul is = elim (configured_half c is) [
-      | inl same ↦ subst (λ c. low (half c configured_nodes.terminal).tx ≡ low (half c w.nodes.terminal).tx) (sym same)
-          (bare_low b _ _ (configured_bare Ul) ∙ sym (bare_low b _ _ (before_bare Ul).0))
-      | inr same ↦ ap (λ e. low e.tx) same
-    ]
+    -- what sends is as before
+    configured_sender : (c : Established) (d : Dir) → Contains (established t) c → half c (sender_table d configured_nodes) ≡ half c (sender_table d w.nodes)
+    configured_sender c Dl is = refl
+    configured_sender c Ul is = configured_half c is
+
+    -- what receives is as before
+    configured_receiver : (c : Established) (d : Dir) → Contains (established t) c → half c (receiver_table d configured_nodes) ≡ half c (receiver_table d w.nodes)
+    configured_receiver c Dl is = configured_half c is
+    configured_receiver c Ul is = refl
 
     module _ (at : on w.links mt_ctl ≡ flight.Ctl (Reconf plan h.root) ∷ []) where
       -- the links after it
@@ -191,33 +166,14 @@ module _ (h : Header) (policies : ℕ) (t : List Entry) (w : WorldState) (sound 
       air_configured Dl = on_moved w.links (Some (mt_ctl, 0)) configured.lines (leg Dl) sound.long ∙ append-nil (on w.links (leg Dl))
       air_configured Ul = on_moved w.links (Some (mt_ctl, 0)) configured.lines (leg Ul) sound.long ∙ append-nil (on w.links (leg Ul))
 
-      -- any other bearer is served as before
-      configured_served_other : (c : Established) (d : Dir) → Contains (established t) c → half c configured_nodes.terminal ≡ half c w.nodes.terminal
-          → IsServed after_configured configured_nodes links_configured c d
-      configured_served_other c d is same =
-          let silent = configured_silent at in
-          served_still t w.nodes w.links c d configured configured_nodes links_configured (sound.served c d is) (silent.hands c d)
-          (elim d as (λ d. (half c (receiver_table d configured_nodes)).rx ≡ (half c (receiver_table d w.nodes)).rx) [ Ul ↦ refl | Dl ↦ ap (λ e. e.rx) same ])
-          (silent.submits c d) (silent.confirms c d) (silent.tags (leg d) c.id c.g)
-          (elim d as (λ d. (half c (sender_table d configured_nodes)).tx ≡ (half c (sender_table d w.nodes)).tx) [ Ul ↦ ap (λ e. e.tx) same | Dl ↦ refl ])
-          (elim d as (λ d. (half c (sender_table d configured_nodes)).sent ≡ (half c (sender_table d w.nodes)).sent) [ Ul ↦ ap (λ e. e.sent) same | Dl ↦ refl ])
-          (λ count flying. inr (subst (IsUnderWay c count) (sym (air_configured d)) flying))
-
-      -- the bearer is served
-      configured_served_it : (d : Dir) → IsServed after_configured configured_nodes links_configured b d
-      configured_served_it d =
-          let silent = configured_silent at in
-          bare_served after_configured configured_nodes links_configured b d (sound.tables.ranged b there).1
-          (submitted_same t configured silent b d ∙ none d) (handed_same t configured silent b d ∙ (before_bare d).2)
-          (λ num. tags_same t configured silent (leg d) b.id b.g num ∙ (before_bare d).3 num)
-          (λ c le. ap (list_any (λ x. x == c)) (confirmed_same t configured silent b d) ∙ (before_bare d).4 c le) (configured_bare d) (configured_rx_bare d)
-
-      -- so every bearer is served
+      -- every bearer is served as before
       configured_served : (c : Established) (d : Dir) → Contains (established after_configured) c → IsServed after_configured configured_nodes links_configured c d
-      configured_served c d is = elim (configured_half c (there_before t configured undrawn c is)) [
-        | inl same ↦ subst (λ c. IsServed after_configured configured_nodes links_configured c d) (sym same) (configured_served_it d)
-        | inr same ↦ configured_served_other c d (there_before t configured undrawn c is) same
-      ]
+      configured_served c d is =
+          let silent = configured_silent at in
+          let was = there_before t configured undrawn c is in
+          served_still t w.nodes w.links c d configured configured_nodes links_configured (sound.served c d was) (silent.hands c d) (ap (λ e. e.rx) (configured_receiver c d was))
+          (silent.submits c d) (silent.confirms c d) (silent.tags (leg d) c.id c.g)
+          (ap (λ e. e.tx) (configured_sender c d was)) (ap (λ e. e.sent) (configured_sender c d was)) (λ count flying. inr (subst (IsUnderWay c count) (sym (air_configured d)) flying))
 
       -- every bearer is at the terminal
       all_configured : ((c : Established) → Contains (established t) c → bearer_in w.nodes.terminal c.id ≡ None → c ≡ b) → AllConfigured after_configured configured_nodes
@@ -229,7 +185,7 @@ module _ (h : Header) (policies : ℕ) (t : List Entry) (w : WorldState) (sound 
       ]
 
       -- the command is answered
-      configured_phase : w.nodes.busy ≡ Some b.g → on w.links tm_ctl ≡ [] → ((c : Established) → Contains (established t) c → bearer_in w.nodes.terminal c.id ≡ None → c ≡ b)
+      configured_phase : w.nodes.busy ≡ Some (change b.g) → on w.links tm_ctl ≡ [] → ((c : Established) → Contains (established t) c → bearer_in w.nodes.terminal c.id ≡ None → c ≡ b)
           → Phase h after_configured configured_nodes links_configured
       configured_phase busy empty only = phase_answered b (there_then t configured undrawn b there) busy
           (on_moved w.links (Some (mt_ctl, 0)) configured.lines mt_ctl sound.long ∙ ap (λ fs. remove fs 0 ++ []) at)
@@ -237,7 +193,7 @@ module _ (h : Header) (policies : ℕ) (t : List Entry) (w : WorldState) (sound 
           (all_configured only)
 
       -- all that it owes
-      pub configured_happened : w.nodes.busy ≡ Some b.g → on w.links tm_ctl ≡ [] → ((c : Established) → Contains (established t) c → bearer_in w.nodes.terminal c.id ≡ None → c ≡ b)
+      pub configured_happened : w.nodes.busy ≡ Some (change b.g) → on w.links tm_ctl ≡ [] → ((c : Established) → Contains (established t) c → bearer_in w.nodes.terminal c.id ≡ None → c ≡ b)
           → Happened h policies t w configured configured_nodes
       configured_happened busy empty only =
           let silent = configured_silent at in
@@ -245,12 +201,13 @@ module _ (h : Header) (policies : ℕ) (t : List Entry) (w : WorldState) (sound 
             tables = configured_tables;
             phase = configured_phase busy empty only;
             served = configured_served;
-            grows = grows_same t configured w.nodes configured_nodes (there_then t configured undrawn) configured_rx;
+            grows = grows_same t configured w.nodes configured_nodes (there_then t configured undrawn) (λ c d is. ap (λ e. e.rx) (configured_receiver c d is))
+                (λ c d is num o was. subst (λ e. slice_get e.sent num ≡ Some o) (sym (configured_sender c d is)) was);
             sent = (tt, tt);
             none_sent = none_sent_still t configured silent.tags sound.none_sent;
             protects = λ c d is. ((λ is_data. absurd is_data), tt);
             carried = λ c d is. none_carried c d t configured (silent.hands c d);
-            freed = λ c d is. silent.moves c d ∙ no_move _ _ (configured_low c d (there_before t configured undrawn c is));
+            freed = λ c d is. silent.moves c d ∙ no_move _ _ (ap (λ e. low e.tx) (configured_sender c d (there_before t configured undrawn c is)));
             fresh_before = λ c is. inl (there_before t configured undrawn c is);
             cause = configured_cause at;
             licence = configured_licence at;

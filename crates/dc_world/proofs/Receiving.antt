@@ -1,6 +1,6 @@
 -- A data PDU is taken, or is aged.
 use Rattle.std.proofs.Common.{ℕ, ◌≡◌, ◌+◌, ◌-◌, ◌<◌, ◌≤◌, ◌⊎◌, ◌==◌, ◌++◌, List, [], ◌∷◌, Option, Some, true, false, length, map, take, slice_get, refl, sym, ap, ◌∙◌, subst, arith, inl, inr}
-use Rattle.std.specs.Prelude.{Contains, nat_lt, ◌&&◌, if◌then◌else◌}
+use Rattle.std.specs.Prelude.{Contains, count_by, nat_lt, ◌&&◌, if◌then◌else◌}
 use Rattle.std.specs.List.{AllByRecursion, flat_map}
 use Rattle.std.proofs.lemmas.List.{append-nil}
 use Rattle.std.proofs.lemmas.Option.{same_Some}
@@ -24,7 +24,7 @@ use Rattle.pdcp_tx.specs.Sender.{Sender, low}
 use Rattle.transcript.specs.Transcript.{Entry, sends, SomeEntry}
 use Rattle.transcript.specs.Content.{mt_ctl, tm_ctl, given, put_on, on_link, reverse, direction}
 use Rattle.transcript.specs.Bearers.{Established, established, latest, submitted, ups, handed, numbered, confirmed, confirms, confirmed_by, tag_of, tags_sent, frees, is_same_dir}
-use Rattle.transcript.specs.Claims.{TakesData, IsDataFlight, IsProtected, Carried, IsReason, receiver, due_answer, step_answer, is_behind as is_behind_in, is_aged as is_aged_in}
+use Rattle.transcript.specs.Claims.{TakesData, IsDataFlight, IsProtected, Carried, IsReason, AscendsFrom, count_in, is_uncounted, receiver, due_answer, step_answer, is_behind as is_behind_in, is_aged as is_aged_in}
 use Rattle.transcript.proofs.OnEach.{each_weaker}
 use Rattle.transcript.proofs.Growing.{SomeEntry-later, SomeEntry-last}
 use Rattle.dc_world.specs.Entities.{Entities, Table, bearer_in, with_bearer}
@@ -34,7 +34,7 @@ use Rattle.dc_world.specs.Links.{Links, on, moved}
 use Rattle.dc_world.specs.Run.{WorldState}
 use Rattle.transcript.proofs.Establishing.{submitted-next, handed-next, confirmed-next, tags_sent-next, same_bearer, is_latest_once, is_generation_once}
 use Rattle.dc_world.proofs.Lane.{IsNumbered, IsLane, numbered_below, Received-only, put_below, found_by_sn, lane_put, lane_handed}
-use Rattle.dc_world.proofs.Sound.{half, or_fresh, sender_table, receiver_table, CarriesCount, IsUnderWay, IsPduOf, IsAckOf, PromiseOf, listed, IsServed, Happened, Sound}
+use Rattle.dc_world.proofs.Sound.{half, or_fresh, sender_table, receiver_table, CarriesCount, IsUnderWay, IsNumberOf, IsPduOf, IsAckOf, an_ack, PromiseOf, listed, IsServed, Happened, Sound}
 use Rattle.dc_world.proofs.Tables.{with_receiver, deliv_is, Keeps, receiver_put, receiver_put_same, receiver_put_here, receiver_put_apart, keeps_all, keeps_receiver}
 use Rattle.dc_world.proofs.Directions.{each_bearer, Apart, same_dir, direction_leg, not_apart, not_named}
 use Rattle.dc_world.proofs.Plain.{IsPlain, there_then, there_before, tabled_same, phase_same}
@@ -43,19 +43,19 @@ use Rattle.dc_world.proofs.Silent.{no_ups, no_frees, no_move, none_carried, none
 use Rattle.dc_world.proofs.Contents.{step_given, step_due}
 use Rattle.dc_world.proofs.Leaving.{no_command, no_completion, flying_after, control_down, control_up}
 use Rattle.dc_world.proofs.Upwards.{sends_after_ups, ups_here, ups_elsewhere, frees_after_ups, has_after_ups, command_after_ups}
-use Rattle.dc_world.proofs.Taking.{taken_data, is_data_flight}
+use Rattle.dc_world.proofs.Taking.{taken_data, is_data_flight, data_confirmed}
 use Rattle.dc_world.proofs.Lists.{consecutive_from, each_both}
 use Rattle.dc_world.proofs.Having.{receiver_has}
 
 -- ---- one flight of a submission
 
 module _ (h : Header) (policies : ℕ) (t : List Entry) (w : WorldState) (sound : Sound h policies t w)
-    (d : Dir) (i : ℕ) (b : Established) (there : Contains (established t) b) (c : ℕ) (p : List ℕ) (sub : IsNumbered b.first (submitted b d t) (c, p))
+    (d : Dir) (i : ℕ) (b : Established) (there : Contains (established t) b) (num c : ℕ) (p : List ℕ) (placed : IsNumberOf w.nodes b d num (Some c)) (sub : IsNumbered b.first (submitted b d t) (c, p))
     (r : Entities) (has : bearer_in (receiver_table d w.nodes) b.id ≡ Some r) (is : r.bearer ≡ b)
-    (at : slice_get (on w.links (leg d)) i ≡ Some (data_flight h b d (c - b.first) c p)) where
+    (at : slice_get (on w.links (leg d)) i ≡ Some (data_flight h b d num c p)) where
   -- the flight
   abbrev f : Flight
-  f = data_flight h b d (c - b.first) c p
+  f = data_flight h b d num c p
 
   -- its bearer is served so far
   served_b : IsServed t w.nodes w.links b d
@@ -153,14 +153,10 @@ module _ (h : Header) (policies : ℕ) (t : List Entry) (w : WorldState) (sound 
     aged_sound : Happened h policies t w aged_entry w.nodes
     aged_sound =
         plain_happened h policies t w sound aged_entry w.nodes aged_silent refl (λ x k. refl)
-        (record { undrawn = record { no_plan = λ g. refl; no_draw = refl }; no_end = λ g. refl; no_set = λ k has. refl }) (keeps_all w.nodes)
+        (record { undrawn = record { no_plan = λ g. refl; no_draw = refl }; no_open = λ g o. refl; no_end = λ g. refl; no_set = λ k has. refl }) (keeps_all w.nodes)
         (control_down w.links sound.long d i f at [] refl) (control_up w.links sound.long d i f at [] refl) aged_flying (sym (due_is ∙ cond-true _ _ _ old))
 
   -- ---- it is taken
-
-  -- its number on the leg
-  abbrev num : ℕ
-  num = c - b.first
 
   -- the receiving entity then
   abbrev rx' : RxParts
@@ -202,6 +198,7 @@ module _ (h : Header) (policies : ℕ) (t : List Entry) (w : WorldState) (sound 
   plain : IsPlain entry
   plain = record {
     undrawn = record { no_plan = λ g. refl; no_draw = refl };
+    no_open = λ g o. refl;
     no_end = λ g. command_after_ups b.id d ack g run;
     no_set = λ id has. has_after_ups b.id d ack id has run;
   }
@@ -222,8 +219,7 @@ module _ (h : Header) (policies : ℕ) (t : List Entry) (w : WorldState) (sound 
 
   -- a data PDU confirms nothing
   confirms_none : (x : Established) (k : Dir) → confirms x k t entry ≡ []
-  confirms_none x Ul = refl
-  confirms_none x Dl = ap (confirmed_by x t) (given_is lines)
+  confirms_none x k = ap (confirmed_by x k t) (given_is lines) ∙ data_confirmed x k t (leg d) b.id b.g num (Some c) _ (is_data_flight h d b c p)
 
   -- the run goes up for its bearer
   ups_b : ups b d t entry ≡ run
@@ -250,6 +246,10 @@ module _ (h : Header) (policies : ℕ) (t : List Entry) (w : WorldState) (sound 
   -- and the COUNTs by their numbers
   sent_same : (x : Established) (k : Dir) → (half x (sender_table k s')).sent ≡ (half x (sender_table k w.nodes)).sent
   sent_same x k = same_at (λ o. (or_fresh x o).sent) refl k x.id
+
+  -- so no number on a leg changes
+  still_placed : (x : Established) (k : Dir) (m : ℕ) (o : Option ℕ) → IsNumberOf w.nodes x k m o → IsNumberOf s' x k m o
+  still_placed x k m o is = subst (λ xs. slice_get xs m ≡ Some o) (sym (sent_same x k)) is
 
   -- its receiver has the new entity
   rx_here : (half b (receiver_table d s')).rx ≡ rx'
@@ -353,11 +353,11 @@ module _ (h : Header) (policies : ℕ) (t : List Entry) (w : WorldState) (sound 
   data_sound young = record {
     tables = tabled_same t entry plain w.nodes s' keeps sound.tables;
     phase = phase_same t entry plain w.nodes s' keeps h w.links links' (control_down w.links sound.long d i f at lines no_control_down) (control_up w.links sound.long d i f at lines no_control_up)
-        (λ x in_t busy absent k. refl) sound.phase;
+        (λ x in_t busy absent k. refl) (λ x in_t busy. sent_same x Dl) sound.phase;
     served = λ x k in_t. all_from (λ x k. IsServed t' s' links' x k) served_here served_elsewhere x k (back x in_t);
     grows = grows_next t entry w.nodes s' (there_then t entry plain.undrawn) (all_from (λ x k. (a : ℕ) → Received (half x (receiver_table k w.nodes)).rx a → Received (half x (receiver_table k s')).rx a)
         (λ a got. subst (λ x. Received x a) (sym rx_here) (Received-put r.rx a c p (subst (λ (x : Entities). Received x.rx a) half_is got)))
-        (λ x k in_t apart a got. subst (λ y. Received y a) (sym (rx_elsewhere x k apart)) got));
+        (λ x k in_t apart a got. subst (λ y. Received y a) (sym (rx_elsewhere x k apart)) got)) (λ x k in_t. still_placed x k);
     sent = subst (AllByRecursion (PromiseOf h t' s')) (sym sends_are) (promise d refl, tt);
     none_sent = none_sent_still t entry tags_none sound.none_sent;
     protects = λ x k in_t. subst (AllByRecursion (λ s. IsDataFlight t' x k s → IsProtected h t' x k s)) (sym sends_are) ((λ data'. absurd data'), tt);
@@ -378,7 +378,8 @@ module _ (h : Header) (policies : ℕ) (t : List Entry) (w : WorldState) (sound 
         },
         tt,
       );
-      one = subst (λ (xs : List (LinkId × Flight)). length xs ≤ 1) (sym sends_are) (omega arith);
+      ascends = subst (λ (ss : List (LinkId × Flight)). AscendsFrom 0 (flat_map count_in ss)) (sym sends_are) tt;
+      one = subst (λ (ss : List (LinkId × Flight)). count_by is_uncounted ss ≤ 1) (sym sends_are) (omega arith);
     };
   }
     where
@@ -391,16 +392,17 @@ module _ (h : Header) (policies : ℕ) (t : List Entry) (w : WorldState) (sound 
       the_ack = record {
         bearer = b;
         there = there_then t entry plain.undrawn b there;
-        count = c;
-        counted = sub.counted;
-        got = got_c;
+        num = num;
+        sent = Some c;
+        numbered = still_placed b d num (Some c) placed;
+        got = (sub.counted, got_c);
         is = refl;
       }
 
       -- so its promise holds
       promise : (k : Dir) → k ≡ d → PromiseOf h t' s' (leg (other k), flight.Ack b.id b.g num)
-      promise Ul is_d = inr (subst (λ k. IsAckOf t' s' k (flight.Ack b.id b.g num)) (sym is_d) the_ack)
-      promise Dl is_d = inr (subst (λ k. IsAckOf t' s' k (flight.Ack b.id b.g num)) (sym is_d) the_ack)
+      promise Ul is_d = an_ack (subst (λ k. IsAckOf t' s' k (flight.Ack b.id b.g num)) (sym is_d) the_ack)
+      promise Dl is_d = an_ack (subst (λ k. IsAckOf t' s' k (flight.Ack b.id b.g num)) (sym is_d) the_ack)
 
   -- what the receiver's rule makes of it
   taken_is : IsPayload p → nat_lt (c + window b.n) r.rx.deliv ≡ false → air_taken h d (receiver_table d w.nodes) f ≡ (with_bearer (receiver_table d w.nodes) b.id (Some r'), lines)
@@ -413,29 +415,29 @@ module _ (h : Header) (policies : ℕ) (t : List Entry) (w : WorldState) (sound 
 
 module _ (h : Header) (policies : ℕ) (t : List Entry) (w : WorldState) (sound : Sound h policies t w) where
   -- a data PDU is taken
-  pub data_happened : (d : Dir) (i : ℕ) (f : Flight) → slice_get (on w.links (leg d)) i ≡ Some f → IsPduOf h t d f → is_aged (receiver_table d w.nodes) f ≡ false
+  pub data_happened : (d : Dir) (i : ℕ) (f : Flight) → slice_get (on w.links (leg d)) i ≡ Some f → IsPduOf h t w.nodes d f → is_aged (receiver_table d w.nodes) f ≡ false
       → let done = air_taken h d (receiver_table d w.nodes) f in
       Happened h policies t w (record { event = Step (leg d) i; answer = answer.Ok; lines = done.1 }) (with_receiver d w.nodes done.0)
   data_happened d i f at pdu young =
-      let b = pdu.bearer in let c = pdu.count in let p = pdu.payload in
-      let sent = data_flight h b d (c - b.first) c p in
-      let found = receiver_has h t w.nodes w.links sound.tables sound.phase d b pdu.there (c, p) pdu.submission in
+      let b = pdu.bearer in let num = pdu.num in let c = pdu.count in let p = pdu.payload in
+      let sent = data_flight h b d num c p in
+      let found = receiver_has h t w.nodes w.links sound.tables sound.phase d b pdu.there num (Some c) pdu.numbered in
       let here : slice_get (on w.links (leg d)) i ≡ Some sent = at ∙ ap Some pdu.is in
       let near : is_aged (receiver_table d w.nodes) sent ≡ false = subst (λ g. is_aged (receiver_table d w.nodes) g ≡ false) pdu.is young in
       let within : nat_lt (c + window b.n) found.0.rx.deliv ≡ false =
-      sym (aged_is h policies t w sound d i b pdu.there c p pdu.submission found.0 found.1 found.2 here) ∙ near in
+      sym (aged_is h policies t w sound d i b pdu.there num c p pdu.numbered pdu.submission found.0 found.1 found.2 here) ∙ near in
       let Q : Table × List Line → Type 0 = λ q. Happened h policies t w (record { event = Step (leg d) i; answer = answer.Ok; lines = q.1 }) (with_receiver d w.nodes q.0) in
       subst (λ g. Q (air_taken h d (receiver_table d w.nodes) g)) (sym pdu.is)
-      (subst Q (sym (taken_is h policies t w sound d i b pdu.there c p pdu.submission found.0 found.1 found.2 here pdu.good within))
-      (data_sound h policies t w sound d i b pdu.there c p pdu.submission found.0 found.1 found.2 here within))
+      (subst Q (sym (taken_is h policies t w sound d i b pdu.there num c p pdu.numbered pdu.submission found.0 found.1 found.2 here pdu.good within))
+      (data_sound h policies t w sound d i b pdu.there num c p pdu.numbered pdu.submission found.0 found.1 found.2 here within))
 
   -- an aged one is not
-  pub aged_happened : (d : Dir) (i : ℕ) (f : Flight) → slice_get (on w.links (leg d)) i ≡ Some f → IsPduOf h t d f → is_aged (receiver_table d w.nodes) f ≡ true
+  pub aged_happened : (d : Dir) (i : ℕ) (f : Flight) → slice_get (on w.links (leg d)) i ≡ Some f → IsPduOf h t w.nodes d f → is_aged (receiver_table d w.nodes) f ≡ true
       → Happened h policies t w (record { event = Step (leg d) i; answer = answer.No Aged; lines = [] }) w.nodes
   aged_happened d i f at pdu old =
-      let b = pdu.bearer in let c = pdu.count in let p = pdu.payload in
-      let found = receiver_has h t w.nodes w.links sound.tables sound.phase d b pdu.there (c, p) pdu.submission in
-      let here : slice_get (on w.links (leg d)) i ≡ Some (data_flight h b d (c - b.first) c p) = at ∙ ap Some pdu.is in
-      let behind : is_aged (receiver_table d w.nodes) (data_flight h b d (c - b.first) c p) ≡ true = subst (λ g. is_aged (receiver_table d w.nodes) g ≡ true) pdu.is old in
-      aged_sound h policies t w sound d i b pdu.there c p pdu.submission found.0 found.1 found.2 here
-      (sym (aged_is h policies t w sound d i b pdu.there c p pdu.submission found.0 found.1 found.2 here) ∙ behind)
+      let b = pdu.bearer in let num = pdu.num in let c = pdu.count in let p = pdu.payload in
+      let found = receiver_has h t w.nodes w.links sound.tables sound.phase d b pdu.there num (Some c) pdu.numbered in
+      let here : slice_get (on w.links (leg d)) i ≡ Some (data_flight h b d num c p) = at ∙ ap Some pdu.is in
+      let behind : is_aged (receiver_table d w.nodes) (data_flight h b d num c p) ≡ true = subst (λ g. is_aged (receiver_table d w.nodes) g ≡ true) pdu.is old in
+      aged_sound h policies t w sound d i b pdu.there num c p pdu.numbered pdu.submission found.0 found.1 found.2 here
+      (sym (aged_is h policies t w sound d i b pdu.there num c p pdu.numbered pdu.submission found.0 found.1 found.2 here) ∙ behind)

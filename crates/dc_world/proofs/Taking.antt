@@ -1,6 +1,6 @@
--- What a node makes of the data PDU of a submission: ciphered twice, its payload is as it was submitted.
-use Rattle.std.proofs.Common.{ℕ, ◌≡◌, ◌-◌, ◌^◌, ◌<◌, ◌++◌, true, List, [], ◌∷◌, Some, Ok, length, map, refl, ap, ◌∙◌, subst, arith}
-use Rattle.std.specs.Prelude.{bit_xor}
+-- What a node makes of the data PDU of a submission: ciphered twice, its payload is as it was submitted; it confirms nothing.
+use Rattle.std.proofs.Common.{ℕ, ◌≡◌, ◌-◌, ◌^◌, ◌<◌, ◌++◌, Bool, true, false, List, [], ◌∷◌, Option, Some, Ok, length, map, refl, ap, ◌∙◌, subst, arith}
+use Rattle.std.specs.Prelude.{bit_xor, if◌then◌else◌}
 use Rattle.std.specs.Int.Bits.{xor_self, xor_zero_r}
 use Rattle.std.proofs.lemmas.Bool.{cond-true, cond-false, eq-eqb, ne_eqb}
 use Rattle.std.proofs.lemmas.Bool.Decides.{nat_tests}
@@ -10,16 +10,20 @@ use Rattle.dc_base.specs.declared.numbers.SnLen.TheVariants.{S12, S18}
 use Rattle.dc_base.specs.declared.events.Header.{Header}
 use Rattle.dc_base.specs.declared.events.Line.{Line}
 use Rattle.dc_base.specs.declared.nodes.Dir.{Dir}
+use Rattle.dc_base.specs.declared.nodes.Dir.TheVariants.{Ul, Dl}
+use Rattle.dc_base.specs.declared.nodes.LinkId.{LinkId}
+use Rattle.dc_base.specs.declared.flights.Flight.TheVariants as flight
 use Rattle.dc_base.proofs.Counting.{sn_small}
 use Rattle.nea2.specs.Combined.{combined}
 use Rattle.nea2.specs.Keystream.{keystream}
 use Rattle.key_chain.specs.KeyNames.{upenc}
 use Rattle.pdcp_pdu.specs.DataPdu.{IsPayload, data_pdu}
-use Rattle.pdcp_pdu.specs.Pdu.{sdu, decoded}
+use Rattle.pdcp_pdu.specs.Pdu.{sdu, decoded, read_data}
 use Rattle.pdcp_pdu.proofs.Reading.{data_again}
 use Rattle.pdcp_rx.specs.Receiver.{put, handed_of}
 use Rattle.transcript.specs.Text.{is_data}
-use Rattle.transcript.specs.Bearers.{Established, master_key}
+use Rattle.transcript.specs.Transcript.{Entry}
+use Rattle.transcript.specs.Bearers.{Established, master_key, confirmed_by, read_of}
 use Rattle.dc_world.specs.Entities.{Entities}
 use Rattle.dc_world.specs.Plane.{ciphered, data_flight, flight_taken, pdu_taken, with_count, sdu_taken, up_line, ack_line}
 use lib.Bits.{xor_assoc}
@@ -92,3 +96,19 @@ header_is_data S18 shown body = grind (arith, nat_tests)
 -- so the data PDU of a submission is one
 pub is_data_flight : (h : Header) (d : Dir) (b : Established) (c : ℕ) (p : List ℕ) → is_data (data_pdu b.n (sn b.n c) (ciphered h b.id d c p)) ≡ true
 is_data_flight h d b c p = header_is_data b.n (sn b.n c) (ciphered h b.id d c p)
+
+-- a data PDU is no status report
+no_report : (n : SnLen) (pdu : List ℕ) → is_data pdu ≡ true → read_of (decoded n pdu) ≡ []
+unfolding decoded read_data
+no_report n pdu is = grind (arith, nat_tests)
+
+-- what is empty is so whether it is taken or not
+none_either : {A : Type 0} (c : Bool) (xs : List A) → xs ≡ [] → (if c then xs else []) ≡ []
+none_either true xs none = none
+none_either false xs none = refl
+
+-- so it confirms nothing
+pub data_confirmed : (x : Established) (k : Dir) (t : List Entry) (l : LinkId) (id g num : ℕ) (tag : Option ℕ) (pdu : List ℕ) → is_data pdu ≡ true
+    → confirmed_by x k t (Some (l, flight.Air id g num tag pdu)) ≡ []
+data_confirmed x Ul t l id g num tag pdu is = none_either _ _ (no_report x.n pdu is)
+data_confirmed x Dl t l id g num tag pdu is = none_either _ _ (no_report x.n pdu is)
