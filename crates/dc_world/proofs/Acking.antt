@@ -1,12 +1,9 @@
 -- An ack is taken.
-use Rattle.std.proofs.Common.{ℕ, zero, suc, ◌≡◌, ◌+◌, ◌-◌, ◌<◌, ◌≤◌, ◌==◌, ◌++◌, List, [], ◌∷◌, Option, Some, None, Bool, true, false, length, slice_get, refl, sym, ap, ◌∙◌, subst, arith, inl, inr}
-use Rattle.std.specs.Prelude.{Contains, nat_lt, if◌then◌else◌, fold, remove}
+use Rattle.std.proofs.Common.{ℕ, ◌≡◌, ◌+◌, ◌-◌, ◌<◌, ◌≤◌, ◌==◌, ◌++◌, List, [], ◌∷◌, Option, Some, None, Bool, length, slice_get, refl, sym, ap, ◌∙◌, subst, arith, inl, inr}
+use Rattle.std.specs.Prelude.{Contains, nat_lt, if◌then◌else◌, fold}
 use Rattle.std.specs.List.{AllByRecursion, flat_map}
-use Rattle.std.specs.Option.{option_map}
 use Rattle.std.proofs.lemmas.List.{append-nil}
-use Rattle.std.proofs.lemmas.Option.{same_Some}
-use Rattle.std.proofs.lemmas.Bool.{cases_Bool, eqb-true, eq-eqb, cond-true}
-use Rattle.std.proofs.lemmas.Bool.Decides.{nat_tests}
+use Rattle.std.proofs.lemmas.Bool.{cases_Bool, eq-eqb, cond-true, lt-ltb}
 use Rattle.dc_base.specs.declared.nodes.Dir.{Dir}
 use Rattle.dc_base.specs.declared.nodes.Dir.TheVariants.{Ul, Dl}
 use Rattle.dc_base.specs.declared.nodes.LinkId.{LinkId}
@@ -18,35 +15,32 @@ use Rattle.dc_base.specs.declared.events.Event.TheVariants.{Step}
 use Rattle.dc_base.specs.declared.events.Line.{Line}
 use Rattle.pdcp_tx.specs.Sender.{low}
 use Rattle.pdcp_tx.specs.Sending.{confirmed as without}
-use Rattle.pdcp_rx.specs.declared.entity.RxParts.{RxParts}
 use Rattle.pdcp_rx.specs.Receiver.{Received}
-use Rattle.transcript.specs.Transcript.{Entry, sends, SomeEntry}
-use Rattle.transcript.specs.Content.{mt_ctl, tm_ctl, mt_air, tm_air, given, on_link, without_taken}
-use Rattle.transcript.specs.Bearers.{Established, established, is_same_dir, ends_command, has_after, submitted, up_of, freed_of, frees, confirmed_by, confirms, confirmed, tag_of, tags_sent}
-use Rattle.transcript.specs.Claims.{TakesData, IsDataFlight, IsProtected, IsReason, step_answer}
+use Rattle.transcript.specs.Transcript.{Entry, sends}
+use Rattle.transcript.specs.Content.{mt_ctl, tm_ctl, mt_air, tm_air, given, on_link}
+use Rattle.transcript.specs.Bearers.{Established, established, ends_command, has_after, submitted, up_of, freed_of, frees, confirmed_by, confirms, confirmed, tag_of, tags_sent, ups}
+use Rattle.transcript.specs.Claims.{IsDataFlight, IsProtected, IsReason, step_answer, HasCause}
 use Rattle.dc_world.specs.Entities.{Entities, Table, bearer_in, with_bearer}
 use Rattle.dc_world.specs.Plane.{leg, other, air_taken, taken_for, flight_taken, confirmed_at, freed_lines}
 use Rattle.dc_world.specs.Control.{Nodes}
 use Rattle.dc_world.specs.Links.{Links, on, moved}
 use Rattle.dc_world.specs.Run.{WorldState}
-use Rattle.transcript.proofs.Establishing.{tags_sent-next, same_bearer, is_latest_once, is_generation_once}
+use Rattle.transcript.proofs.Establishing.{is_latest_once, is_generation_once}
 use Rattle.dc_world.proofs.Lane.{IsLane, lane_confirmed, received_below, sent_at}
-use Rattle.dc_world.proofs.Tables.{with_receiver, at_the_master}
-use Rattle.dc_world.proofs.Contents.{on_moved}
-use Rattle.dc_world.proofs.Changing.{IsPlain, generation_same, there_before, Keeps, keeps_all, keeps_changed, half_at, half_here, half_other, Apart, parted, sender_apart, tabled_same, grows_same, phase_same, served_next, served_still, no_ups, no_frees, no_move}
-use Rattle.dc_world.proofs.Sound.{half, sender_table, receiver_table, IsAckOf, CarriesCount, IsUnderWay, PromiseOf, listed, IsServed, Happened, Sound}
+use Rattle.dc_world.proofs.Tables.{with_receiver, at_the_master, Keeps, half_at, sender_put, sender_put_same, sender_put_here, sender_put_apart, sender_put_rx, keeps_all, keeps_sender}
+use Rattle.dc_world.proofs.Directions.{each_bearer, not_named, Apart, not_other}
+use Rattle.dc_world.proofs.Plain.{IsPlain, there_then, there_before, tabled_same, phase_same}
+use Rattle.dc_world.proofs.Served.{lane_same, served_next, served_still}
+use Rattle.dc_world.proofs.Silent.{no_ups, no_frees, no_move, none_carried, none_sent_still, grows_same, IsSilent, plain_happened}
+use Rattle.dc_world.proofs.Contents.{step_given, step_due}
+use Rattle.dc_world.proofs.Leaving.{flying_after, control_down, control_up}
+use Rattle.dc_world.proofs.Sound.{or_fresh, half, sender_table, receiver_table, IsAckOf, IsUnderWay, PromiseOf, listed, IsServed, Happened, Sound}
 
 -- ---- lines and links
 
 -- a bearer of another identity, or in uplink, is not told of
 freed_apart : (b : Established) (d : Dir) (id x y : ℕ) → Apart Dl id d b.id → flat_map (freed_of b d) (freed_lines id x y) ≡ []
-freed_apart b d id x y (inl turned) =
-    let uplink : is_same_dir Dl d ≡ false = ap (is_same_dir Dl) turned in
-    elim (cases_Bool (nat_lt x y)) [
-      | inl less ↦ elim (cases_Bool (id == b.id)) [ inl same ↦ rw (less, same, uplink) refl | inr apart ↦ rw (less, apart) refl ]
-      | inr most ↦ rw most refl
-    ]
-freed_apart b d id x y (inr apart) = elim (cases_Bool (nat_lt x y)) [ inl less ↦ rw (less, apart) refl | inr most ↦ rw most refl ]
+freed_apart b d id x y apart = elim (cases_Bool (nat_lt x y)) [ inl less ↦ rw (less, not_named Dl id d b.id apart) refl | inr most ↦ rw most refl ]
 
 -- the bearer is, where Low rises
 freed_here : (b : Established) (x y : ℕ) → flat_map (freed_of b Dl) (freed_lines b.id x y) ≡ (if nat_lt x y then y ∷ [] else [])
@@ -72,112 +66,29 @@ freed_sets k has id x y = elim (cases_Bool (nat_lt x y)) [ inl less ↦ rw less 
 abbrev rising : Entities → Entities → List ℕ
 rising x y = if nat_lt (low x.tx) (low y.tx) then low y.tx ∷ [] else []
 
--- a test that succeeds
-is_less : (m n : ℕ) → m < n → nat_lt m n ≡ true
-is_less m n less = grind (arith, nat_tests)
-
--- downlink is not uplink
-not_uplink : Dl ≡ Ul → ⊥
-not_uplink e = cc
-
--- a flight that carries no PDU of the bearer leaves
-under_way_removed : (b : Established) (c : ℕ) (fs : List Flight) (i : ℕ) (f : Flight) → slice_get fs i ≡ Some f → (CarriesCount b c f → ⊥) → IsUnderWay b c fs → IsUnderWay b c (remove fs i)
-under_way_removed b c [] i f at none under = absurd under
-under_way_removed b c (x ∷ fs) zero f at none (inl here) = absurd (none (subst (CarriesCount b c) (same_Some x f at) here))
-under_way_removed b c (x ∷ fs) zero f at none (inr there) = there
-under_way_removed b c (x ∷ fs) (suc i) f at none (inl here) = inl here
-under_way_removed b c (x ∷ fs) (suc i) f at none (inr there) = inr (under_way_removed b c fs i f at none there)
-
--- no command leaves
-command_stays : (d : Dir) (i : ℕ) (fs : List Flight) → without_taken mt_ctl (Some (leg (other d), i)) fs ≡ fs
-command_stays Dl i fs = refl
-command_stays Ul i fs = refl
-
--- and no answer to one
-completion_stays : (d : Dir) (i : ℕ) (fs : List Flight) → without_taken tm_ctl (Some (leg (other d), i)) fs ≡ fs
-completion_stays Dl i fs = refl
-completion_stays Ul i fs = refl
-
 -- an ack that is given is neither out of order nor aged
 ack_due : (d : Dir) (t : List Entry) (i id g num : ℕ) → step_answer t (leg (other d)) i (Some (flight.Ack id g num)) ≡ answer.Ok
 ack_due Dl t i id g num = refl
 ack_due Ul t i id g num = refl
 
--- the same bearer put in its own place
-half_same : (b : Established) (table : Table) (id : ℕ) (e : Entities) → bearer_in table id ≡ Some e → half b (with_bearer table id (Some e)) ≡ half b table
-half_same b table id e at =
-    elim (cases_Bool (id == b.id)) [
-      | inl same ↦ let is : b.id ≡ id = sym (eqb-true id b.id same) in half_here b table id e e at is ∙ sym (half_at b table id e at is)
-      | inr apart ↦ half_other b table id (Some e) apart
-    ]
-
 module _ (h : Header) (policies : ℕ) (t : List Entry) (w : WorldState) (sound : Sound h policies t w) where
-  -- an ack leaves a leg, and its receiver sends nothing
-  module _ (d : Dir) (i id g num : ℕ) (lines : List Line) (s' : Nodes) (at : slice_get (on w.links (leg (other d))) i ≡ Some (flight.Ack id g num)) (silent : sends lines ≡ []) where
+  -- an ack leaves a leg
+  module _ (d : Dir) (i id g num : ℕ) (lines : List Line) (at : slice_get (on w.links (leg (other d))) i ≡ Some (flight.Ack id g num)) where
     -- what happens
     abbrev entry : Entry
     entry = record { event = Step (leg (other d)) i; answer = answer.Ok; lines = lines }
 
-    -- what the links hold then
-    abbrev links' : Links
-    links' = moved w.links (Some (leg (other d), i)) lines
-
-    -- what stands on each link then
-    on_then : (l : LinkId) → on links' l ≡ without_taken l (Some (leg (other d), i)) (on w.links l)
-    on_then l =
-        on_moved w.links (Some (leg (other d), i)) lines l sound.long
-        ∙ ap (λ ss. without_taken l (Some (leg (other d), i)) (on w.links l) ++ flat_map (on_link l) ss) silent
-        ∙ append-nil (without_taken l (Some (leg (other d), i)) (on w.links l))
-
     -- PDUs under way are so
-    flying : (b : Established) (d' : Dir) (k : ℕ) → IsUnderWay b k (on w.links (leg d')) → IsUnderWay b k (on links' (leg d'))
-    flying b d' k under = subst (IsUnderWay b k) (sym (on_then (leg d'))) (stays d d' at under)
-      where
-        stays : (d d' : Dir) → slice_get (on w.links (leg (other d))) i ≡ Some (flight.Ack id g num) → IsUnderWay b k (on w.links (leg d'))
-            → IsUnderWay b k (without_taken (leg d') (Some (leg (other d), i)) (on w.links (leg d')))
-        stays Dl Dl at under = under
-        stays Dl Ul at under = under_way_removed b k (on w.links tm_air) i (flight.Ack id g num) at (λ is. is) under
-        stays Ul Dl at under = under_way_removed b k (on w.links mt_air) i (flight.Ack id g num) at (λ is. is) under
-        stays Ul Ul at under = under
+    flying : (b : Established) (d' : Dir) (k : ℕ) → IsUnderWay b k (on w.links (leg d')) → IsUnderWay b k (on (moved w.links (Some (leg (other d), i)) lines) (leg d'))
+    flying b d' k way = elim (flying_after w.links sound.long (other d) i (flight.Ack id g num) at lines b d' k way) [ inl it ↦ absurd it.1 | inr still ↦ still ]
 
     -- the ack is given
     given_is : given t entry ≡ Some (leg (other d), flight.Ack id g num)
-    given_is =
-        ap (λ fs. option_map (λ f. (leg (other d), f)) (slice_get fs i)) (sound.contents (leg (other d)))
-        ∙ ap (option_map (λ f. (leg (other d), f))) at
+    given_is = step_given t w.links sound.contents (leg (other d)) i (flight.Ack id g num) at lines
 
-    -- no PDU is sent
-    no_tags : (l : LinkId) (id g num : ℕ) → flat_map (tag_of l id g num) (sends lines) ≡ []
-    no_tags l id g num = ap (flat_map (tag_of l id g num)) silent
-
-    -- all but what it serves and frees
-    acked : IsPlain entry → Keeps w.nodes s' → ((b : Established) (d' : Dir) → flat_map (up_of b d') lines ≡ [])
-        → ((b : Established) (d' : Dir) → Contains (established t) b → IsServed (t ++ entry ∷ []) s' links' b d')
-        → ((b : Established) (d' : Dir) → Contains (established t) b
-        → frees b d' t entry ≡ (if nat_lt (low (half b (sender_table d' w.nodes)).tx) (low (half b (sender_table d' s')).tx) then low (half b (sender_table d' s')).tx ∷ [] else []))
-        → Happened h policies t w entry s'
-    acked plain keeps nothing_up served freed = record {
-      tables = tabled_same t entry plain w.nodes s' keeps sound.tables;
-      phase = phase_same t entry plain w.nodes s' keeps h w.links links'
-          (on_then mt_ctl ∙ command_stays d i (on w.links mt_ctl)) (on_then tm_ctl ∙ completion_stays d i (on w.links tm_ctl))
-          (λ b there busy absent d'. refl) sound.phase;
-      served = λ b d' there. served b d' (there_before t entry plain b there);
-      grows = grows_same t entry plain w.nodes s' keeps;
-      sent = subst (AllByRecursion (PromiseOf h (t ++ entry ∷ []) s')) (sym silent) tt;
-      none_sent = λ l k g' n later. tags_sent-next l k g' n t entry
-          ∙ ap (λ xs. tags_sent l k g' n t ++ xs) (no_tags l k g' n) ∙ append-nil (tags_sent l k g' n t)
-          ∙ sound.none_sent l k g' n (subst (λ n. n < g') (generation_same t entry plain) later);
-      protects = λ b d' there. subst (AllByRecursion (λ s. IsDataFlight (t ++ entry ∷ []) b d' s → IsProtected h (t ++ entry ∷ []) b d' s)) (sym silent) tt;
-      carried = λ b d' there. subst (AllByRecursion (λ up. SomeEntry (TakesData b d' up.0) (t ++ entry ∷ []))) (sym (no_ups b d' t entry (nothing_up b d'))) tt;
-      freed = λ b d' there. freed b d' (there_before t entry plain b there);
-      fresh_before = λ b there. inl (there_before t entry plain b there);
-      cause = sym (ap (λ fs. step_answer t (leg (other d)) i (slice_get fs i)) (sound.contents (leg (other d)))
-          ∙ ap (step_answer t (leg (other d)) i) at ∙ ack_due d t i id g num);
-      licence = record {
-        reasons = subst (AllByRecursion (IsReason h t entry)) (sym silent) tt;
-        one = subst (λ (ss : List (LinkId × Flight)). length ss ≤ 1) (sym silent) (omega arith);
-      };
-    }
+    -- its answer is due
+    ack_cause : HasCause policies t entry
+    ack_cause = sym (step_due t w.links sound.contents (leg (other d)) i (flight.Ack id g num) at ∙ ack_due d t i id g num)
 
   -- ---- an ack of uplink, at the terminal
 
@@ -187,25 +98,23 @@ module _ (h : Header) (policies : ℕ) (t : List Entry) (w : WorldState) (sound 
     abbrev unheeded : Entry
     unheeded = record { event = Step mt_air i; answer = answer.Ok; lines = [] }
 
-    -- no generation is drawn
-    plain_unheeded : IsPlain unheeded
-    plain_unheeded = record { no_plan = λ g. refl; no_draw = refl; no_end = λ g. refl; no_set = λ k has. refl }
-
-    -- nothing is confirmed
-    none_confirmed : (b : Established) (d : Dir) → confirms b d t unheeded ≡ []
-    none_confirmed b Dl = ap (confirmed_by b t) (given_is Ul i id g num [] s' at refl)
-    none_confirmed b Ul = refl
+    -- it carries no data
+    unheeded_silent : IsSilent t unheeded
+    unheeded_silent = record {
+      submits = λ b d. refl;
+      hands = λ b d. no_ups b d t unheeded refl;
+      moves = λ b d. no_frees b d t unheeded refl;
+      confirms = λ b d. elim d as (λ d. confirms b d t unheeded ≡ []) [ Ul ↦ refl | Dl ↦ ap (confirmed_by b t) (given_is Ul i id g num [] at) ];
+      tags = λ l id g num. refl;
+    }
 
     -- so all is kept
     unheeded_happened : Happened h policies t w unheeded s'
     unheeded_happened =
-        acked Ul i id g num [] s' at refl plain_unheeded keeps (λ b d. refl)
-        (λ b d there. served_still t unheeded plain_unheeded w.nodes s' keeps w.links (links' Ul i id g num [] s' at refl) b d (sound.served b d there) (no_ups b d t unheeded refl)
-        refl (none_confirmed b d) (λ n. refl) (still b d) (flying Ul i id g num [] s' at refl b d))
-        (λ b d there.
-        let before = low (half b (sender_table d w.nodes)).tx in
-        no_frees b d t unheeded refl
-        ∙ subst (λ k. [] ≡ (if nat_lt before k then k ∷ [] else [])) (sym (ap (λ (x : Entities). low x.tx) (still b d))) (sym (no_move before)))
+        plain_happened h policies t w sound unheeded s' unheeded_silent refl still
+        (record { undrawn = record { no_plan = λ g. refl; no_draw = refl }; no_end = λ g. refl; no_set = λ k has. refl }) keeps
+        (control_down w.links sound.long Dl i (flight.Ack id g num) at [] refl) (control_up w.links sound.long Dl i (flight.Ack id g num) at [] refl)
+        (λ b d there c way. inr (flying Ul i id g num [] at b d c way)) (ack_cause Ul i id g num [] at)
 
   -- what the terminal made of a flight happened
   abbrev AtTerminal : ℕ → Table × List Line → Type 0
@@ -218,11 +127,8 @@ module _ (h : Header) (policies : ℕ) (t : List Entry) (w : WorldState) (sound 
   terminal_takes i id g num at (Some e) is =
       let nothing : flight_taken h Dl e (flight.Ack id g num) ≡ (e, []) = elim (cases_Bool (g == e.bearer.g)) [ inl same ↦ rw same refl | inr apart ↦ rw apart refl ] in
       subst (λ (q : Entities × List Line). AtTerminal i (with_bearer w.nodes.terminal id (Some q.0), q.1)) (sym nothing)
-      (unheeded_happened i id g num (record w.nodes { terminal = with_bearer w.nodes.terminal id (Some e) }) at (keeps_changed Ul w.nodes id e e is refl refl)
-      (λ b d. elim d as (λ d. half b (sender_table d (record w.nodes { terminal = with_bearer w.nodes.terminal id (Some e) })) ≡ half b (sender_table d w.nodes)) [
-        | Dl ↦ refl
-        | Ul ↦ half_same b w.nodes.terminal id e is
-      ]))
+      (unheeded_happened i id g num (sender_put Ul w.nodes id e) at (keeps_sender Ul w.nodes id e e is refl)
+      (λ b d. sender_put_same (or_fresh b) Ul w.nodes id e e is refl d b.id))
 
   -- ---- an ack of downlink, at the master
 
@@ -256,15 +162,18 @@ module _ (h : Header) (policies : ℕ) (t : List Entry) (w : WorldState) (sound 
     -- no generation is drawn
     plain : IsPlain heeded
     plain = record {
-      no_plan = λ g. refl;
-      no_draw = refl;
+      undrawn = record { no_plan = λ g. refl; no_draw = refl };
       no_end = λ g. freed_ends g b.id (low e.tx) (low e'.tx);
       no_set = λ k has. freed_sets k has b.id (low e.tx) (low e'.tx);
     }
 
-    -- each bearer keeps its receiving side
+    -- each place keeps its bearer
     keeps : Keeps w.nodes after
-    keeps = keeps_changed Dl w.nodes b.id e e' at refl refl
+    keeps = keeps_sender Dl w.nodes b.id e e' at refl
+
+    -- and its receiving side
+    rx_still : (b' : Established) (d' : Dir) → (half b' (receiver_table d' after)).rx ≡ (half b' (receiver_table d' w.nodes)).rx
+    rx_still b' d' = sender_put_rx Dl w.nodes b.id e e' at refl b' d'
 
     -- what the links hold then
     abbrev left_links : Links
@@ -274,9 +183,21 @@ module _ (h : Header) (policies : ℕ) (t : List Entry) (w : WorldState) (sound 
     silent : sends lines ≡ []
     silent = freed_sends b.id (low e.tx) (low e'.tx)
 
+    -- so no PDU is
+    no_tags : (l : LinkId) (id g k : ℕ) → flat_map (tag_of l id g k) (sends lines) ≡ []
+    no_tags l id g k = ap (flat_map (tag_of l id g k)) silent
+
+    -- nothing goes up
+    nothing_up : (b' : Established) (d' : Dir) → ups b' d' t heeded ≡ []
+    nothing_up b' d' = no_ups b' d' t heeded (freed_ups b' d' b.id (low e.tx) (low e'.tx))
+
+    -- PDUs under way are so
+    flying_here : (b' : Established) (d' : Dir) (k : ℕ) → IsUnderWay b' k (on w.links (leg d')) → IsUnderWay b' k (on left_links (leg d'))
+    flying_here = flying Dl i b.id b.g num lines placed
+
     -- the ack is given
     given_here : given t heeded ≡ Some (tm_air, flight.Ack b.id b.g num)
-    given_here = given_is Dl i b.id b.g num lines after placed silent
+    given_here = given_is Dl i b.id b.g num lines placed
 
     -- what the master held of the bearer
     half_before : half b w.nodes.master ≡ e
@@ -284,7 +205,7 @@ module _ (h : Header) (policies : ℕ) (t : List Entry) (w : WorldState) (sound 
 
     -- and holds then
     half_after : half b after.master ≡ e'
-    half_after = half_here b w.nodes.master b.id e e' at refl
+    half_after = sender_put_here Dl w.nodes b b.id e e' at refl
 
     -- the bearer was served
     was : IsServed t w.nodes w.links b Dl
@@ -302,7 +223,7 @@ module _ (h : Header) (policies : ℕ) (t : List Entry) (w : WorldState) (sound 
         let within : num < length (submitted b Dl t) = omega arith in
         let is : b.first + num ≡ count = omega arith in
         sent_at b.n b.first (submitted b Dl t) (confirmed b Dl t) e.tx e.sent (half b w.nodes.terminal).rx lane num
-        ∙ cond-true _ _ _ (is_less num (length (submitted b Dl t)) within) ∙ ap Some is
+        ∙ cond-true _ _ _ (lt-ltb num (length (submitted b Dl t)) within) ∙ ap Some is
 
     -- what the master makes of the ack
     taken_is : air_taken h Ul w.nodes.master (flight.Ack b.id b.g num) ≡ (with_bearer w.nodes.master b.id (Some e'), lines)
@@ -320,65 +241,66 @@ module _ (h : Header) (policies : ℕ) (t : List Entry) (w : WorldState) (sound 
 
     -- and for no other bearer or direction
     confirms_apart : (b' : Established) (d' : Dir) → Apart Dl b.id d' b'.id → confirms b' d' t heeded ≡ []
-    confirms_apart b' Dl (inl turned) = absurd (not_uplink turned)
+    confirms_apart b' Dl (inl turned) = absurd (not_other Dl turned)
     confirms_apart b' Dl (inr apart) = ap (confirmed_by b' t) given_here ∙ rw apart refl
     confirms_apart b' Ul apart = refl
 
     -- the bearer is served
     served_here : IsServed (t ++ heeded ∷ []) after left_links b Dl
     served_here =
-        let xs' : submitted b Dl t ++ [] ≡ submitted b Dl t = append-nil (submitted b Dl t) in
-        let rx : RxParts = (half b w.nodes.terminal).rx in
-        served_next t heeded plain w.nodes after keeps w.links left_links b Dl was (no_ups b Dl t heeded (freed_ups b Dl b.id (low e.tx) (low e'.tx)))
-        (subst (λ (x : Entities). IsLane b.n b.first (submitted b Dl t ++ []) (confirmed b Dl t ++ confirms b Dl t heeded) x.tx x.sent rx) (sym half_after)
-        (subst (λ xs. IsLane b.n b.first xs (confirmed b Dl t ++ confirms b Dl t heeded) e'.tx e.sent rx) (sym xs')
-        (subst (λ cs. IsLane b.n b.first (submitted b Dl t) (confirmed b Dl t ++ cs) e'.tx e.sent rx) (sym confirms_here)
-        (lane_confirmed b.n b.first (submitted b Dl t) (confirmed b Dl t) e.tx e.sent rx lane count counted got))))
+        served_next t w.nodes w.links b Dl heeded after left_links was (nothing_up b Dl) (rx_still b Dl)
+        (lane_same b.n b.first _ _ _ _ _ _ _ _ _ _ (append-nil (submitted b Dl t)) (ap (λ cs. confirmed b Dl t ++ cs) confirms_here)
+        (ap (λ (x : Entities). x.tx) half_after) (ap (λ (x : Entities). x.sent) half_after) refl
+        (lane_confirmed b.n b.first (submitted b Dl t) (confirmed b Dl t) e.tx e.sent (half b w.nodes.terminal).rx lane count counted got))
         (λ k from below.
         let before : k < e.tx.next = subst (λ (x : Entities). k < x.tx.next) half_after below in
         elim (was.owed k from (subst (λ (x : Entities). k < x.tx.next) (sym half_before) before)) [
           | inl got' ↦ inl got'
-          | inr under ↦ inr (flying Dl i b.id b.g num lines after placed silent b Dl k under)
+          | inr under ↦ inr (flying_here b Dl k under)
         ])
         (λ n.
-        ap (λ xs. tags_sent (leg Dl) b.id b.g n t ++ xs) (no_tags Dl i b.id b.g num lines after placed silent (leg Dl) b.id b.g n) ∙ append-nil (tags_sent (leg Dl) b.id b.g n t)
+        ap (λ xs. tags_sent (leg Dl) b.id b.g n t ++ xs) (no_tags (leg Dl) b.id b.g n) ∙ append-nil (tags_sent (leg Dl) b.id b.g n t)
         ∙ was.numbers n ∙ ap (λ (x : Entities). listed (slice_get x.sent n)) half_before ∙ ap (λ (x : Entities). listed (slice_get x.sent n)) (sym half_after))
 
     -- so is every other
     served_all : (b' : Established) (d' : Dir) → Contains (established t) b' → IsServed (t ++ heeded ∷ []) after left_links b' d'
-    served_all b' d' there =
-        elim (parted Dl b.id d' b'.id) [
-          | inl same ↦
-              let is : b' ≡ b = same_bearer (established t) b' b sound.tables.once there here same.1 in
-              subst (λ k. IsServed (t ++ heeded ∷ []) after left_links b' k) (sym same.0)
-              (subst (λ x. IsServed (t ++ heeded ∷ []) after left_links x Dl) (sym is) served_here)
-          | inr apart ↦
-              served_still t heeded plain w.nodes after keeps w.links left_links b' d' (sound.served b' d' there) (no_ups b' d' t heeded (freed_ups b' d' b.id (low e.tx) (low e'.tx)))
-              refl (confirms_apart b' d' apart) (λ n. no_tags Dl i b.id b.g num lines after placed silent (leg d') b'.id b'.g n)
-              (sender_apart Dl w.nodes b.id (Some e') b' d' apart) (flying Dl i b.id b.g num lines after placed silent b' d')
-        ]
+    served_all = each_bearer (established t) sound.tables.once b here Dl b.id refl (λ x k. IsServed (t ++ heeded ∷ []) after left_links x k) served_here (λ b' d' there apart.
+        let same : half b' (sender_table d' after) ≡ half b' (sender_table d' w.nodes) = sender_put_apart Dl w.nodes b.id e' b' d' apart in
+        served_still t w.nodes w.links b' d' heeded after left_links (sound.served b' d' there) (nothing_up b' d') (rx_still b' d') refl (confirms_apart b' d' apart)
+        (λ n. no_tags (leg d') b'.id b'.g n) (ap (λ (x : Entities). x.tx) same) (ap (λ (x : Entities). x.sent) same) (λ k way. inr (flying_here b' d' k way)))
 
     -- its window moves where Low rises, and no other
     freed_all : (b' : Established) (d' : Dir) → Contains (established t) b'
         → frees b' d' t heeded ≡ (if nat_lt (low (half b' (sender_table d' w.nodes)).tx) (low (half b' (sender_table d' after)).tx) then low (half b' (sender_table d' after)).tx ∷ [] else [])
     freed_all b' d' there =
         cond-true _ _ _ (is_latest_once t b' sound.tables.once there)
-        ∙ elim (parted Dl b.id d' b'.id) [
-          | inl same ↦
-              let is : b' ≡ b = same_bearer (established t) b' b sound.tables.once there here same.1 in
-              subst (λ k. flat_map (freed_of b' k) lines ≡ rising (half b' (sender_table k w.nodes)) (half b' (sender_table k after))) (sym same.0)
-              (subst (λ x. flat_map (freed_of x Dl) lines ≡ rising (half x w.nodes.master) (half x after.master)) (sym is)
-              (freed_here b (low e.tx) (low e'.tx) ∙ ap (λ x. rising x e') (sym half_before) ∙ ap (rising (half b w.nodes.master)) (sym half_after)))
-          | inr apart ↦
-              freed_apart b' d' b.id (low e.tx) (low e'.tx) apart
-              ∙ sym (no_move (low (half b' (sender_table d' w.nodes)).tx))
-              ∙ ap (rising (half b' (sender_table d' w.nodes))) (sym (sender_apart Dl w.nodes b.id (Some e') b' d' apart))
-        ]
+        ∙ each_bearer (established t) sound.tables.once b here Dl b.id refl (λ x k. flat_map (freed_of x k) lines ≡ rising (half x (sender_table k w.nodes)) (half x (sender_table k after)))
+        (freed_here b (low e.tx) (low e'.tx) ∙ ap (λ x. rising x e') (sym half_before) ∙ ap (rising (half b w.nodes.master)) (sym half_after))
+        (λ x k there apart. freed_apart x k b.id (low e.tx) (low e'.tx) apart ∙ no_move _ _ (ap (λ (x : Entities). low x.tx) (sender_put_apart Dl w.nodes b.id e' x k apart))) b' d' there
 
     -- so all is kept
     heeded_happened : Happened h policies t w heeded after
     heeded_happened =
-        acked Dl i b.id b.g num lines after placed silent plain keeps (λ b' d'. freed_ups b' d' b.id (low e.tx) (low e'.tx)) served_all freed_all
+        let before = there_before t heeded plain.undrawn in
+        record {
+          tables = tabled_same t heeded plain w.nodes after keeps sound.tables;
+          phase = phase_same t heeded plain w.nodes after keeps h w.links left_links
+              (control_down w.links sound.long Ul i _ placed lines (ap (flat_map (on_link mt_ctl)) silent)) (control_up w.links sound.long Ul i _ placed lines (ap (flat_map (on_link tm_ctl)) silent))
+              (λ b' there busy absent d'. refl) sound.phase;
+          served = λ b' d' there. served_all b' d' (before b' there);
+          grows = grows_same t heeded w.nodes after (there_then t heeded plain.undrawn) (λ b' d' there. rx_still b' d');
+          sent = subst (AllByRecursion (PromiseOf h (t ++ heeded ∷ []) after)) (sym silent) tt;
+          none_sent = none_sent_still t heeded no_tags sound.none_sent;
+          protects = λ b' d' there. subst (AllByRecursion (λ s. IsDataFlight (t ++ heeded ∷ []) b' d' s → IsProtected h (t ++ heeded ∷ []) b' d' s)) (sym silent) tt;
+          carried = λ b' d' there. none_carried b' d' t heeded (nothing_up b' d');
+          freed = λ b' d' there. freed_all b' d' (before b' there);
+          fresh_before = λ b' there. inl (before b' there);
+          cause = ack_cause Dl i b.id b.g num lines placed;
+          licence = record {
+            reasons = subst (AllByRecursion (IsReason h t heeded)) (sym silent) tt;
+            one = subst (λ (ss : List (LinkId × Flight)). length ss ≤ 1) (sym silent) (omega arith);
+          };
+        }
 
   -- an ack of direction d's PDUs is taken from the other leg
   pub ack_happened : (d : Dir) (i : ℕ) (f : Flight) → slice_get (on w.links (leg (other d))) i ≡ Some f → IsAckOf t w.nodes d f

@@ -1,5 +1,5 @@
 -- From what an event owes to all that is kept.
-use Rattle.std.proofs.Common.{ℕ, ◌≡◌, ◌+◌, ◌-◌, ◌==◌, ◌≤◌, ◌++◌, length, take, drop, slice_get, List, [], ◌∷◌, Option, Some, None, Bool, true, false, refl, sym, ap, ◌∙◌, subst, arith, inl, inr, ◌⊎◌, ◌<◌}
+use Rattle.std.proofs.Common.{ℕ, ◌≡◌, ◌+◌, ◌-◌, ◌++◌, length, take, drop, List, [], ◌∷◌, Option, Some, None, sym, ap, ◌∙◌, subst, inl, inr, ◌⊎◌}
 use Rattle.std.specs.Prelude.{if◌then◌else◌, nat_lt, Contains, remove}
 use Rattle.std.specs.List.{AllByRecursion, flat_map}
 use Rattle.dc_base.specs.declared.nodes.Dir.{Dir}
@@ -13,24 +13,23 @@ use Rattle.dc_base.specs.declared.flights.Flight.{Flight}
 use Rattle.dc_base.specs.declared.events.Header.{Header}
 use Rattle.transcript.specs.Transcript.{Entry, sends}
 use Rattle.transcript.specs.Content.{is_same_link, without_taken, on_link, put_on, place_taken}
-use Rattle.transcript.specs.Bearers.{Established, established, submission, submitted, ups, handed, confirms, confirmed, tag_of, tags_sent, numbered, least_but, told}
-use Rattle.transcript.specs.Claims.{TakesData, KeepsAll, HasCause, IsLicensed}
+use Rattle.transcript.specs.Bearers.{Established, established, submitted, handed, confirmed, numbered, least_but, told}
+use Rattle.transcript.specs.Claims.{KeepsAll, HasCause, IsLicensed}
 use Rattle.transcript.proofs.OnEach.{each_append, each_remove, each_weaker}
-use Rattle.transcript.proofs.Growing.{Each-next, SomeEntry-later}
-use Rattle.transcript.proofs.Establishing.{submitted-next, handed-next, confirmed-next, tags_sent-next, none_submitted, none_confirmed}
-use Rattle.std.proofs.lemmas.List.{append-nil, take-append-drop}
-use Rattle.std.proofs.lemmas.Bool.{cond_both, eqb-true}
+use Rattle.transcript.proofs.Growing.{Each-next}
+use Rattle.transcript.proofs.Establishing.{none_submitted, none_confirmed}
+use Rattle.std.proofs.lemmas.List.{take-append-drop}
+use Rattle.std.proofs.lemmas.Bool.{cond_both}
 use Rattle.pdcp_tx.specs.Sender.{low}
-use Rattle.pdcp_rx.specs.Receiver.{Received}
-use Rattle.dc_world.specs.Entities.{Entities, bearer_in}
+use Rattle.dc_world.specs.Entities.{bearer_in}
 use Rattle.dc_world.proofs.Lists.{numbered-append}
-use Rattle.dc_world.proofs.Lane.{IsLane, low_is, all_handed}
+use Rattle.dc_world.proofs.Lane.{low_is, all_handed}
 use Rattle.dc_world.proofs.Contents.{on_moved, length_moved, contents-next, same_link}
 use Rattle.dc_world.specs.Control.{Nodes}
 use Rattle.dc_world.specs.Links.{Links, on, moved}
 use Rattle.dc_world.specs.Plane.{leg, other}
 use Rattle.dc_world.specs.Run.{WorldState}
-use Rattle.dc_world.proofs.Sound.{or_fresh, half, sender_table, receiver_table, listed, IsUnderWay, IsServed, IsPduOf, IsAckOf, Promise, PromiseOf, Grows, Happened, Sound}
+use Rattle.dc_world.proofs.Sound.{or_fresh, half, sender_table, receiver_table, IsUnderWay, IsServed, IsPduOf, IsAckOf, Promise, PromiseOf, Grows, Happened, Sound}
 
 module _ (h : Header) (t : List Entry) (s : Nodes) (t' : List Entry) (s' : Nodes) (grows : Grows t s t' s') where
   pdu_later : (d : Dir) (f : Flight) → IsPduOf h t d f → IsPduOf h t' d f
@@ -44,6 +43,7 @@ module _ (h : Header) (t : List Entry) (s : Nodes) (t' : List Entry) (s' : Nodes
     is = p.is;
   }
 
+  -- the confirm of a PDU is one later
   ack_later : (d : Dir) (f : Flight) → IsAckOf t s d f → IsAckOf t' s' d f
   ack_later d f a = record {
     bearer = a.bearer;
@@ -54,6 +54,7 @@ module _ (h : Header) (t : List Entry) (s : Nodes) (t' : List Entry) (s' : Nodes
     is = a.is;
   }
 
+  -- so what stands on a leg keeps its promise
   air_later : (d : Dir) (f : Flight) → IsPduOf h t d f ⊎ IsAckOf t s (other d) f → IsPduOf h t' d f ⊎ IsAckOf t' s' (other d) f
   air_later d f promise = elim promise [ inl pdu ↦ inl (pdu_later d f pdu) | inr ack ↦ inr (ack_later (other d) f ack) ]
 
@@ -76,34 +77,6 @@ module _ (h : Header) (t : List Entry) (s : Nodes) (t' : List Entry) (s' : Nodes
   Promise-later A to class f promise = absurd promise
   Promise-later B to class f promise = absurd promise
 
--- a bearer and direction that an entry says nothing of is served as before
-pub served_same : (t : List Entry) (s : Nodes) (links : Links) (b : Established) (d : Dir) (e : Entry) (s' : Nodes) (links' : Links) → IsServed t s links b d
-    → submission b d t e ≡ [] → ups b d t e ≡ [] → confirms b d t e ≡ [] → ((num : ℕ) → flat_map (tag_of (leg d) b.id b.g num) (sends e.lines) ≡ [])
-    → half b (sender_table d s') ≡ half b (sender_table d s) → half b (receiver_table d s') ≡ half b (receiver_table d s)
-    → ((c : ℕ) → IsUnderWay b c (on links (leg d)) → IsUnderWay b c (on links' (leg d)))
-    → IsServed (t ++ e ∷ []) s' links' b d
-served_same t s links b d e s' links' served submits runs confirms_none tags sender receiver flying =
-    let S : submitted b d (t ++ e ∷ []) ≡ submitted b d t = submitted-next b d t e ∙ ap (λ xs. submitted b d t ++ xs) submits ∙ append-nil (submitted b d t) in
-    let H : handed b d (t ++ e ∷ []) ≡ handed b d t = handed-next b d t e ∙ ap (λ xs. handed b d t ++ xs) runs ∙ append-nil (handed b d t) in
-    let C : confirmed b d (t ++ e ∷ []) ≡ confirmed b d t = confirmed-next b d t e ∙ ap (λ xs. confirmed b d t ++ xs) confirms_none ∙ append-nil (confirmed b d t) in
-    let lane = λ (xs : List (List ℕ)) (cs : List ℕ) (x y : Entities). IsLane b.n b.first xs cs x.tx x.sent y.rx in
-    record {
-      lane = subst (λ xs. lane xs (confirmed b d (t ++ e ∷ [])) (half b (sender_table d s')) (half b (receiver_table d s'))) (sym S)
-          (subst (λ cs. lane (submitted b d t) cs (half b (sender_table d s')) (half b (receiver_table d s'))) (sym C)
-          (subst (λ x. lane (submitted b d t) (confirmed b d t) x (half b (receiver_table d s'))) (sym sender)
-          (subst (λ y. lane (submitted b d t) (confirmed b d t) (half b (sender_table d s)) y) (sym receiver) served.lane)));
-      handed_is = H ∙ served.handed_is
-          ∙ ap (λ (y : Entities). numbered b.first (take (y.rx.deliv - b.first) (submitted b d t))) (sym receiver)
-          ∙ ap (λ xs. numbered b.first (take ((half b (receiver_table d s')).rx.deliv - b.first) xs)) (sym S);
-      came = λ c from got. SomeEntry-later (TakesData b d c) t e (served.came c from (subst (λ (y : Entities). Received y.rx c) receiver got));
-      owed = λ c from below. elim (served.owed c from (subst (λ (x : Entities). c < x.tx.next) sender below)) [
-        | inl got ↦ inl (subst (λ (y : Entities). Received y.rx c) (sym receiver) got)
-        | inr way ↦ inr (flying c way)
-      ];
-      numbers = λ num. tags_sent-next (leg d) b.id b.g num t e ∙ ap (λ xs. tags_sent (leg d) b.id b.g num t ++ xs) (tags num)
-          ∙ append-nil (tags_sent (leg d) b.id b.g num t) ∙ served.numbers num ∙ ap (λ (x : Entities). listed (slice_get x.sent num)) (sym sender);
-    }
-
 -- what was handed up is a front of what was submitted, and all of it where no flight stands on a link
 served_prefix : (t : List Entry) (s : Nodes) (links : Links) (b : Established) (d : Dir) → IsServed t s links b d
     → (rest : List (ℕ × List ℕ)) × (numbered b.first (submitted b d t) ≡ handed b d t ++ rest)
@@ -115,6 +88,7 @@ served_prefix t s links b d served =
           ∙ ap (λ xs. xs ++ numbered (b.first + length (take k S)) (drop k S)) (sym served.handed_is),
     )
 
+-- all of it was handed up where no flight stands on the leg
 served_complete : (t : List Entry) (s : Nodes) (links : Links) (b : Established) (d : Dir) → IsServed t s links b d → on links (leg d) ≡ []
     → handed b d t ≡ numbered b.first (submitted b d t)
 served_complete t s links b d served none =
@@ -146,6 +120,7 @@ module _ (h : Header) (policies : ℕ) (t : List Entry) (w : WorldState) (e : En
       at_sender Dl none _ = none
       at_sender Ul _ none = none
 
+  -- the entry keeps all claims
   kept : KeepsAll h t e
   kept b d there =
       let served = happened.served b d there in

@@ -1,5 +1,5 @@
 -- The master sets a bearer up.
-use Rattle.std.proofs.Common.{ℕ, ◌≡◌, ◌+◌, ◌-◌, ◌^◌, ◌<◌, ◌≤◌, ◌==◌, ◌⊎◌, ◌++◌, List, [], ◌∷◌, Option, Some, None, true, false, refl, sym, ap, ◌∙◌, subst, arith, inl, inr, append-nil}
+use Rattle.std.proofs.Common.{ℕ, ◌≡◌, ◌+◌, ◌-◌, ◌^◌, ◌<◌, ◌≤◌, ◌==◌, ◌⊎◌, ◌++◌, List, [], ◌∷◌, Option, Some, None, true, false, refl, sym, ap, ◌∙◌, subst, arith, inl, inr, append-nil, Bool}
 use Rattle.std.specs.Prelude.{Contains, nat_le, not, is_some, if◌then◌else◌}
 use Rattle.std.specs.List.{flat_map, list_any}
 use Rattle.std.specs.Option.{option_map}
@@ -20,19 +20,21 @@ use Rattle.dc_base.specs.declared.events.Note.TheVariants as note
 use Rattle.pdcp_tx.specs.Sender.{low}
 use Rattle.transcript.specs.Transcript.{Entry}
 use Rattle.transcript.specs.Content.{mt_ctl, tm_ctl}
-use Rattle.transcript.specs.Bearers.{open_command, unless_opening, at_master, master_key, submitted, Established, established, established_by, generation, plans, plan_drawn, is_latest, latest, is_set, at_terminal, key_in, confirms}
+use Rattle.transcript.specs.Bearers.{open_command, unless_opening, at_master, master_key, submitted, Established, established, established_by, generation, plans, plan_drawn, latest, is_set, at_terminal, key_in, confirms}
 use Rattle.transcript.specs.Claims.{is_mm, IsLicensed, HasCause}
-use Rattle.dc_world.specs.Entities.{Entities, fresh, bearer_in, with_bearer}
+use Rattle.dc_world.specs.Entities.{fresh, bearer_in, with_bearer}
 use Rattle.dc_world.specs.Plane.{leg}
 use Rattle.dc_world.specs.Control.{Nodes, opened, plan_for}
 use Rattle.dc_world.specs.Links.{Links, on, moved}
 use Rattle.dc_world.specs.Run.{WorldState}
 use Rattle.transcript.proofs.Establishing.{established-next, generation-next, plans-next, open_command-next, is_set-next, IsOnce, latest-push, once-push, contains_push, contains_left, contains_last, established_drawn, none_submitted, none_confirmed, none_handed, key_in-other, key_in-same}
 use Rattle.dc_world.proofs.Contents.{on_moved}
-use Rattle.dc_world.proofs.Assembly.{served_same}
 use Rattle.dc_world.proofs.Tables.{bearer_in-same, bearer_in-other, length-with_bearer}
-use Rattle.dc_world.proofs.Sound.{NoneSent, or_fresh, half, sender_table, receiver_table, IsUnderWay, IsServed, AllConfigured, Phase, idle as phase_idle, commanded as phase_commanded, answered as phase_answered, IsTabled, Happened, Sound}
-use Rattle.dc_world.proofs.Silent.{confirmed_same, same_choice, IsSilent, submitted_same, handed_same, tags_same, none_sent_still, none_carried, none_freed, still_grows, IsBare, fresh_bare, bare_served}
+use Rattle.dc_world.proofs.Plain.{none_mapped}
+use Rattle.dc_world.proofs.Served.{served_still}
+use Rattle.dc_world.proofs.Silent.{no_ups, no_frees, no_move, none_carried, none_sent_still, grows_same, IsSilent, submitted_same, handed_same, confirmed_same, tags_same}
+use Rattle.dc_world.proofs.Bare.{IsBare, fresh_bare, bare_served}
+use Rattle.dc_world.proofs.Sound.{or_fresh, half, sender_table, receiver_table, IsUnderWay, IsServed, AllConfigured, Phase, idle as phase_idle, commanded as phase_commanded, answered as phase_answered, IsTabled, Happened, Sound}
 
 -- nothing is there
 is_none : {A : Type 0} (o : Option A) → is_some o ≡ false → o ≡ None
@@ -78,8 +80,8 @@ module _ (h : Header) (policies : ℕ) (t : List Entry) (w : WorldState) (sound 
   began_silent : IsSilent t began
   began_silent = record {
     submits = λ c d. refl;
-    hands = λ c d. same_choice (is_latest c t) [];
-    moves = λ c d. same_choice (is_latest c t) [];
+    hands = λ c d. no_ups c d t began refl;
+    moves = λ c d. no_frees c d t began refl;
     confirms = λ c d. elim d as (λ d. confirms c d t began ≡ []) [ Ul ↦ refl | Dl ↦ refl ];
     tags = λ l id g num. refl;
   }
@@ -145,12 +147,12 @@ module _ (h : Header) (policies : ℕ) (t : List Entry) (w : WorldState) (sound 
 
     -- it is new to the terminal
     not_at_terminal : bearer_in w.nodes.terminal id ≡ None
-    not_at_terminal = no_bearer (bearer_in w.nodes.terminal id) (sound.tables.terminal_is id ∙ ap (λ o. if is_set id t then o else None) not_established ∙ same_choice (is_set id t) None)
+    not_at_terminal = none_mapped (bearer_in w.nodes.terminal id) (sound.tables.terminal_is id ∙ unset (is_set id t) (latest id (established t)) not_established)
       where
-        -- no bearer, no entities
-        no_bearer : (o : Option Entities) → option_map (λ e. e.bearer) o ≡ None → o ≡ None
-        no_bearer None none = refl
-        no_bearer (Some e) none = absurd cc
+        -- nothing, whether it is set up or not
+        unset : (set : Bool) (o : Option Established) → o ≡ None → (if set then o else None) ≡ None
+        unset true o none = none
+        unset false o none = refl
 
     -- so the terminal was never told of it
     not_set : is_set id t ≡ false
@@ -280,8 +282,9 @@ module _ (h : Header) (policies : ℕ) (t : List Entry) (w : WorldState) (sound 
       | inl same ↦ subst (λ c. IsServed after_began began_nodes links_began c d) (sym same) (new_served d)
       | inr old ↦
           let silent = began_silent in
-          served_same t w.nodes w.links c d began began_nodes links_began (sound.served c d old) (silent.submits c d) (silent.hands c d) (silent.confirms c d) (silent.tags (leg d) c.id c.g)
-          (began_sender c d is) (began_receiver c d is) (λ count flying. subst (IsUnderWay c count) (sym (began_air d)) flying)
+          served_still t w.nodes w.links c d began began_nodes links_began (sound.served c d old) (silent.hands c d) (ap (λ e. e.rx) (began_receiver c d is))
+          (silent.submits c d) (silent.confirms c d) (silent.tags (leg d) c.id c.g)
+          (ap (λ e. e.tx) (began_sender c d is)) (ap (λ e. e.sent) (began_sender c d is)) (λ count flying. inr (subst (IsUnderWay c count) (sym (began_air d)) flying))
     ]
 
     -- ---- the command
@@ -313,10 +316,6 @@ module _ (h : Header) (policies : ℕ) (t : List Entry) (w : WorldState) (sound 
       | inr old ↦ inl old
     ]
 
-    -- nothing was sent of generations to come
-    began_none_sent : NoneSent after_began
-    began_none_sent = none_sent_still t began began_silent sound.none_sent
-
     -- all that it owes
     pub began_happened : is_mm shape ≡ true → nat_le policies policy ≡ false → Happened h policies t w began began_nodes
     began_happened mm known =
@@ -325,12 +324,12 @@ module _ (h : Header) (policies : ℕ) (t : List Entry) (w : WorldState) (sound 
           tables = began_tables;
           phase = began_phase;
           served = began_served;
-          grows = still_grows t began silent w.nodes began_nodes began_on (λ c d is. ap (λ e. e.rx) (began_receiver c d (began_on c is)));
+          grows = grows_same t began w.nodes began_nodes began_on (λ c d is. ap (λ e. e.rx) (began_receiver c d (began_on c is)));
           sent = (tt, tt);
-          none_sent = began_none_sent;
+          none_sent = none_sent_still t began silent.tags sound.none_sent;
           protects = λ c d is. ((λ is_data. absurd is_data), tt);
-          carried = λ c d is. none_carried t began silent c d;
-          freed = λ c d is. none_freed t began silent c d (half c (sender_table d w.nodes)).tx (half c (sender_table d began_nodes)).tx (ap (λ e. low e.tx) (began_sender c d is));
+          carried = λ c d is. none_carried c d t began (silent.hands c d);
+          freed = λ c d is. silent.moves c d ∙ no_move _ _ (ap (λ e. low e.tx) (began_sender c d is));
           fresh_before = began_before;
           cause = began_cause mm known;
           licence = began_licence;

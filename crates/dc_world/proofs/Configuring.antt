@@ -18,19 +18,21 @@ use Rattle.dc_base.specs.declared.events.Note.TheVariants as note
 use Rattle.pdcp_tx.specs.Sender.{low}
 use Rattle.transcript.specs.Transcript.{Entry}
 use Rattle.transcript.specs.Content.{mt_ctl, tm_ctl, given}
-use Rattle.transcript.specs.Bearers.{submitted, handed, confirmed, tags_sent, Established, established, is_latest, latest, is_set, at_terminal, key_in, confirms, confirmed_by}
-use Rattle.transcript.specs.Claims.{IsLicensed, HasCause, step_answer}
+use Rattle.transcript.specs.Bearers.{submitted, handed, confirmed, tags_sent, Established, established, latest, is_set, at_terminal, key_in, confirms, confirmed_by}
+use Rattle.transcript.specs.Claims.{IsLicensed, HasCause}
 use Rattle.dc_world.specs.Entities.{fresh, bearer_in, with_bearer}
 use Rattle.dc_world.specs.Plane.{leg}
 use Rattle.dc_world.specs.Control.{Nodes, plan_for}
 use Rattle.dc_world.specs.Links.{Links, on, moved}
 use Rattle.dc_world.specs.Run.{WorldState}
 use Rattle.transcript.proofs.Establishing.{open_command-next, is_set-next, IsOnce, same_bearer}
-use Rattle.dc_world.proofs.Contents.{on_moved}
-use Rattle.dc_world.proofs.Assembly.{served_same}
+use Rattle.dc_world.proofs.Contents.{on_moved, step_given, step_due}
 use Rattle.dc_world.proofs.Tables.{bearer_in-same, bearer_in-other, length-with_bearer}
+use Rattle.dc_world.proofs.Plain.{IsUndrawn, plans_same, established_same, generation_same, there_then, there_before}
+use Rattle.dc_world.proofs.Served.{served_still}
+use Rattle.dc_world.proofs.Silent.{no_ups, no_frees, no_move, none_carried, none_sent_still, grows_same, IsSilent, submitted_same, handed_same, confirmed_same, tags_same}
+use Rattle.dc_world.proofs.Bare.{IsBare, fresh_bare, bare_low, bare_served, none_yet}
 use Rattle.dc_world.proofs.Sound.{or_fresh, half, sender_table, receiver_table, IsUnderWay, IsServed, AllConfigured, Phase, answered as phase_answered, IsTabled, Happened, Sound}
-use Rattle.dc_world.proofs.Silent.{confirmed_same, plans_same, established_same, generation_same, same_choice, IsSilent, submitted_same, handed_same, tags_same, none_sent_still, none_carried, none_freed, still_grows, IsBare, fresh_bare, bare_low, bare_served, none_yet}
 
 module _ (h : Header) (policies : ℕ) (t : List Entry) (w : WorldState) (sound : Sound h policies t w) (b : Established) (there : Contains (established t) b) (shape : Shape) (threshold policy : ℕ) where
   -- the plan of the open command
@@ -52,14 +54,14 @@ module _ (h : Header) (policies : ℕ) (t : List Entry) (w : WorldState) (sound 
   module _ (at : on w.links mt_ctl ≡ flight.Ctl (Reconf plan h.root) ∷ []) where
     -- the flight that it gives
     configured_given : given t configured ≡ Some (mt_ctl, flight.Ctl (Reconf plan h.root))
-    configured_given = ap (λ fs. option_map (λ f. (mt_ctl, f)) (slice_get fs 0)) (sound.contents mt_ctl ∙ at)
+    configured_given = step_given t w.links sound.contents mt_ctl 0 (flight.Ctl (Reconf plan h.root)) (ap (λ fs. slice_get fs 0) at) configured.lines
 
     -- it carries no data
     configured_silent : IsSilent t configured
     configured_silent = record {
       submits = λ c d. refl;
-      hands = λ c d. same_choice (is_latest c t) [];
-      moves = λ c d. same_choice (is_latest c t) [];
+      hands = λ c d. no_ups c d t configured refl;
+      moves = λ c d. no_frees c d t configured refl;
       confirms = λ c d. elim d as (λ d. confirms c d t configured ≡ []) [ Ul ↦ refl | Dl ↦ ap (confirmed_by c t) configured_given ];
       tags = λ l id g num. refl;
     }
@@ -73,19 +75,15 @@ module _ (h : Header) (policies : ℕ) (t : List Entry) (w : WorldState) (sound 
 
     -- its answer is due
     configured_cause : HasCause policies t configured
-    configured_cause = sym (ap (λ fs. step_answer t mt_ctl 0 (slice_get fs 0)) (sound.contents mt_ctl ∙ at))
+    configured_cause = sym (step_due t w.links sound.contents mt_ctl 0 (flight.Ctl (Reconf plan h.root)) (ap (λ fs. slice_get fs 0) at))
 
-  -- the bearers are the same
+  -- no generation is drawn
+  undrawn : IsUndrawn configured
+  undrawn = record { no_plan = λ g. refl; no_draw = refl }
+
+  -- so the bearers are the same
   configured_established : established after_configured ≡ established t
-  configured_established = established_same t configured refl refl
-
-  -- so each of them was there before
-  configured_back : (c : Established) → Contains (established after_configured) c → Contains (established t) c
-  configured_back c is = subst (λ bs. Contains bs c) configured_established is
-
-  -- and each that was there is one of them
-  configured_on : (c : Established) → Contains (established t) c → Contains (established after_configured) c
-  configured_on c is = subst (λ bs. Contains bs c) (sym configured_established) is
+  configured_established = established_same t configured undrawn
 
   -- the identities at the terminal then
   configured_set : (id : ℕ) → is_set id after_configured ≡ (if b.id == id then true else is_set id t)
@@ -132,11 +130,11 @@ module _ (h : Header) (policies : ℕ) (t : List Entry) (w : WorldState) (sound 
         master_is = λ id. tables.master_is id ∙ ap (latest id) (sym configured_established);
         terminal_is = configured_terminal_is;
         set_is = configured_set_is;
-        drawn_is = tables.drawn_is ∙ sym (generation_same t configured refl refl);
+        drawn_is = tables.drawn_is ∙ sym (generation_same t configured undrawn);
         busy_is = tables.busy_is ∙ sym (open_command-next t configured);
         once = subst IsOnce (sym configured_established) tables.once;
-        ranged = λ c is. tables.ranged c (configured_back c is);
-        keyed = λ c is. ap (key_in c.g c.id) (plans_same t configured refl refl) ∙ tables.keyed c (configured_back c is);
+        ranged = λ c is. tables.ranged c (there_before t configured undrawn c is);
+        keyed = λ c is. ap (key_in c.g c.id) (plans_same t configured undrawn) ∙ tables.keyed c (there_before t configured undrawn c is);
       }
 
   -- so it begins with the bearer
@@ -198,10 +196,12 @@ module _ (h : Header) (policies : ℕ) (t : List Entry) (w : WorldState) (sound 
           → IsServed after_configured configured_nodes links_configured c d
       configured_served_other c d is same =
           let silent = configured_silent at in
-          served_same t w.nodes w.links c d configured configured_nodes links_configured (sound.served c d is) (silent.submits c d) (silent.hands c d) (silent.confirms c d) (silent.tags (leg d) c.id c.g)
-          (elim d as (λ d. half c (sender_table d configured_nodes) ≡ half c (sender_table d w.nodes)) [ Ul ↦ same | Dl ↦ refl ])
-          (elim d as (λ d. half c (receiver_table d configured_nodes) ≡ half c (receiver_table d w.nodes)) [ Ul ↦ refl | Dl ↦ same ])
-          (λ count flying. subst (IsUnderWay c count) (sym (air_configured d)) flying)
+          served_still t w.nodes w.links c d configured configured_nodes links_configured (sound.served c d is) (silent.hands c d)
+          (elim d as (λ d. (half c (receiver_table d configured_nodes)).rx ≡ (half c (receiver_table d w.nodes)).rx) [ Ul ↦ refl | Dl ↦ ap (λ e. e.rx) same ])
+          (silent.submits c d) (silent.confirms c d) (silent.tags (leg d) c.id c.g)
+          (elim d as (λ d. (half c (sender_table d configured_nodes)).tx ≡ (half c (sender_table d w.nodes)).tx) [ Ul ↦ ap (λ e. e.tx) same | Dl ↦ refl ])
+          (elim d as (λ d. (half c (sender_table d configured_nodes)).sent ≡ (half c (sender_table d w.nodes)).sent) [ Ul ↦ ap (λ e. e.sent) same | Dl ↦ refl ])
+          (λ count flying. inr (subst (IsUnderWay c count) (sym (air_configured d)) flying))
 
       -- the bearer is served
       configured_served_it : (d : Dir) → IsServed after_configured configured_nodes links_configured b d
@@ -214,9 +214,9 @@ module _ (h : Header) (policies : ℕ) (t : List Entry) (w : WorldState) (sound 
 
       -- so every bearer is served
       configured_served : (c : Established) (d : Dir) → Contains (established after_configured) c → IsServed after_configured configured_nodes links_configured c d
-      configured_served c d is = elim (configured_half c (configured_back c is)) [
+      configured_served c d is = elim (configured_half c (there_before t configured undrawn c is)) [
         | inl same ↦ subst (λ c. IsServed after_configured configured_nodes links_configured c d) (sym same) (configured_served_it d)
-        | inr same ↦ configured_served_other c d (configured_back c is) same
+        | inr same ↦ configured_served_other c d (there_before t configured undrawn c is) same
       ]
 
       -- every bearer is at the terminal
@@ -224,14 +224,14 @@ module _ (h : Header) (policies : ℕ) (t : List Entry) (w : WorldState) (sound 
       all_configured only c is gone = elim (cases_Bool (b.id == c.id)) [
         | inl same ↦ let has = subst (λ k. bearer_in configured_nodes.terminal k ≡ Some (fresh b)) (eqb-true b.id c.id same) terminal_has in absurd (cc)
         | inr apart ↦
-            let same : c ≡ b = only c (configured_back c is) (sym (terminal_other c.id apart) ∙ gone) in
+            let same : c ≡ b = only c (there_before t configured undrawn c is) (sym (terminal_other c.id apart) ∙ gone) in
             absurd (eqb-false b.id c.id apart (ap (λ c. c.id) (sym same)))
       ]
 
       -- the command is answered
       configured_phase : w.nodes.busy ≡ Some b.g → on w.links tm_ctl ≡ [] → ((c : Established) → Contains (established t) c → bearer_in w.nodes.terminal c.id ≡ None → c ≡ b)
           → Phase h after_configured configured_nodes links_configured
-      configured_phase busy empty only = phase_answered b (configured_on b there) busy
+      configured_phase busy empty only = phase_answered b (there_then t configured undrawn b there) busy
           (on_moved w.links (Some (mt_ctl, 0)) configured.lines mt_ctl sound.long ∙ ap (λ fs. remove fs 0 ++ []) at)
           (on_moved w.links (Some (mt_ctl, 0)) configured.lines tm_ctl sound.long ∙ ap (λ fs. fs ++ flight.Ctl (Rcomp b.g) ∷ []) empty)
           (all_configured only)
@@ -245,13 +245,13 @@ module _ (h : Header) (policies : ℕ) (t : List Entry) (w : WorldState) (sound 
             tables = configured_tables;
             phase = configured_phase busy empty only;
             served = configured_served;
-            grows = still_grows t configured silent w.nodes configured_nodes configured_on configured_rx;
+            grows = grows_same t configured w.nodes configured_nodes (there_then t configured undrawn) configured_rx;
             sent = (tt, tt);
-            none_sent = none_sent_still t configured silent sound.none_sent;
+            none_sent = none_sent_still t configured silent.tags sound.none_sent;
             protects = λ c d is. ((λ is_data. absurd is_data), tt);
-            carried = λ c d is. none_carried t configured silent c d;
-            freed = λ c d is. none_freed t configured silent c d (half c (sender_table d w.nodes)).tx (half c (sender_table d configured_nodes)).tx (configured_low c d (configured_back c is));
-            fresh_before = λ c is. inl (configured_back c is);
+            carried = λ c d is. none_carried c d t configured (silent.hands c d);
+            freed = λ c d is. silent.moves c d ∙ no_move _ _ (configured_low c d (there_before t configured undrawn c is));
+            fresh_before = λ c is. inl (there_before t configured undrawn c is);
             cause = configured_cause at;
             licence = configured_licence at;
           }

@@ -1,9 +1,8 @@
 -- What stands on each link after an event.
-use Rattle.std.proofs.Common.{ℕ, zero, suc, ◌≡◌, ◌+◌, ◌<◌, ◌≤◌, ◌==◌, ◌++◌, true, false, List, [], ◌∷◌, Option, Some, None, length, slice_get, refl, sym, ap, ◌∙◌, subst, arith, inl, inr}
+use Rattle.std.proofs.Common.{ℕ, ◌≡◌, ◌<◌, ◌++◌, true, List, [], ◌∷◌, Option, Some, None, length, refl, sym, ap, ◌∙◌, arith, inl, inr, append_assoc, slice_get}
 use Rattle.std.specs.Prelude.{if◌then◌else◌, fold, remove, slice_index_or}
 use Rattle.std.specs.List.{flat_map}
 use Rattle.std.proofs.lemmas.List.{get_or-set_same, get_or-set_other, length-set, append-nil}
-use Rattle.std.proofs.Common.{append_assoc}
 use Rattle.std.proofs.lemmas.Bool.{cases_Bool, eqb-true, eq-eqb}
 use Rattle.dc_base.specs.declared.nodes.Node.{Node}
 use Rattle.dc_base.specs.declared.nodes.Node.TheVariants.{T, M, A, B}
@@ -13,16 +12,22 @@ use Rattle.dc_base.specs.declared.nodes.LinkId.{LinkId}
 use Rattle.dc_base.specs.declared.flights.Flight.{Flight}
 use Rattle.dc_base.specs.declared.events.Line.{Line}
 use Rattle.transcript.specs.Transcript.{Entry, sends}
-use Rattle.transcript.specs.Content.{content, content_after, is_same_link, node_number, class_number, link_number, without_taken, on_link, put_on, place_taken}
+use Rattle.transcript.specs.Content.{given, content, content_after, is_same_link, node_number, class_number, link_number, without_taken, on_link, put_on, place_taken}
+use Rattle.std.specs.Option.{option_map}
+use Rattle.transcript.specs.Claims.{step_answer}
+use Rattle.dc_base.specs.declared.answers.Answer.TheVariants as answer
+use Rattle.dc_base.specs.declared.events.Event.TheVariants.{Step}
 use Rattle.transcript.proofs.Growing.{content-next}
 use Rattle.dc_world.specs.Links.{Links, on, with_flights, put_on_one, taken_out, moved}
 
+-- a node has its number below 4
 node_small : (n : Node) → node_number n < 4
 node_small T = omega arith
 node_small M = omega arith
 node_small A = omega arith
 node_small B = omega arith
 
+-- and so has a class
 class_small : (c : Class) → class_number c < 4
 class_small Ctl = omega arith
 class_small Feed = omega arith
@@ -45,6 +50,7 @@ on-with links k l fs long =
       | inr other ↦ rw other (get_or-set_other links (link_number k) (link_number l) fs [] (λ is. let yes' : is_same_link l k ≡ true = eq-eqb (link_number l) (link_number k) is in absurd cc))
     ]
 
+-- one flight is put on its link
 on-put : (links : Links) (s : LinkId × Flight) (l : LinkId) → length links ≡ 64 → on (put_on_one links s) l ≡ on links l ++ on_link l s
 on-put links s l long =
     on-with links s.0 l (on links s.0 ++ s.1 ∷ []) long
@@ -55,6 +61,7 @@ on-put links s l long =
       | inr other ↦ rw other (sym (append-nil (on links l)))
     ]
 
+-- and so are several
 on-puts : (xs : List (LinkId × Flight)) (links : Links) (l : LinkId) → length links ≡ 64 → on (fold put_on_one links xs) l ≡ on links l ++ flat_map (on_link l) xs
 on-puts [] links l long = sym (append-nil (on links l))
 on-puts (x ∷ xs) links l long =
@@ -62,6 +69,7 @@ on-puts (x ∷ xs) links l long =
     ∙ ap (λ fs. fs ++ flat_map (on_link l) xs) (on-put links x l long)
     ∙ append_assoc (on links l) (on_link l x) (flat_map (on_link l) xs)
 
+-- a flight is taken from its link
 on-taken_out : (links : Links) (place : Option (LinkId × ℕ)) (l : LinkId) → length links ≡ 64 → on (taken_out links place) l ≡ without_taken l place (on links l)
 on-taken_out links None l long = refl
 on-taken_out links (Some place) l long =
@@ -73,10 +81,12 @@ on-taken_out links (Some place) l long =
       | inr other ↦ rw other refl
     ]
 
+-- there are as many links when one is taken
 length-taken_out : (links : Links) (place : Option (LinkId × ℕ)) → length (taken_out links place) ≡ length links
 length-taken_out links None = refl
 length-taken_out links (Some place) = length-set links (link_number place.0) (remove (on links place.0) place.1)
 
+-- and when flights are put
 length-puts : (xs : List (LinkId × Flight)) (links : Links) → length (fold put_on_one links xs) ≡ length links
 length-puts [] links = refl
 length-puts (x ∷ xs) links = length-puts xs (put_on_one links x) ∙ length-set links (link_number x.0) (on links x.0 ++ x.1 ∷ [])
@@ -88,6 +98,7 @@ on_moved links place lines l long =
     on-puts (sends lines) (taken_out links place) l (length-taken_out links place ∙ long)
     ∙ ap (λ fs. fs ++ put_on l lines) (on-taken_out links place l long)
 
+-- so there are after an event
 pub length_moved : (links : Links) (place : Option (LinkId × ℕ)) (lines : List Line) → length (moved links place lines) ≡ length links
 length_moved links place lines = length-puts (sends lines) (taken_out links place) ∙ length-taken_out links place
 
@@ -116,6 +127,7 @@ node_is B M e = absurd (omega (arith, e))
 node_is B A e = absurd (omega (arith, e))
 node_is B B e = refl
 
+-- a class is known by its number
 class_is : (m n : Class) → class_number m ≡ class_number n → m ≡ n
 class_is Ctl Ctl e = refl
 class_is Ctl Feed e = absurd (omega (arith, e))
@@ -145,3 +157,13 @@ same_link l k same =
     ap (λ n. record { from = n; to = l.to; class = l.class }) from
     ∙ ap (λ n. record { from = k.from; to = n; class = l.class }) to
     ∙ ap (λ n. record { from = k.from; to = k.to; class = n }) class
+
+-- a step takes the flight that stands there
+module _ (t : List Entry) (links : Links) (contents : (l : LinkId) → content l t ≡ on links l) (l : LinkId) (i : ℕ) (f : Flight) (at : slice_get (on links l) i ≡ Some f) where
+  -- if it is answered ok it gives it
+  pub step_given : (lines : List Line) → given t (record { event = Step l i; answer = answer.Ok; lines = lines }) ≡ Some (l, f)
+  step_given lines = ap (λ fs. option_map (λ f. (l, f)) (slice_get fs i)) (contents l) ∙ ap (option_map (λ f. (l, f))) at
+
+  -- the answer that is due is that to the flight
+  pub step_due : step_answer t l i (slice_get (content l t) i) ≡ step_answer t l i (Some f)
+  step_due = ap (λ fs. step_answer t l i (slice_get fs i)) (contents l) ∙ ap (step_answer t l i) at

@@ -1,11 +1,11 @@
 -- The run theorem: the transcript of every run meets the claims.
 use Rattle.std.proofs.Common.{ℕ, zero, suc, ◌≡◌, ◌+◌, ◌-◌, ◌^◌, ◌<◌, ◌≤◌, ◌==◌, ◌&&◌, ◌⊎◌, ◌++◌, List, [], ◌∷◌, Option, Some, None, Bool, true, false, length, slice_get, refl, sym, ap, ◌∙◌, subst, arith, inl, inr, append_assoc}
-use Rattle.std.specs.Prelude.{if◌then◌else◌, nat_lt, nat_le, not, is_some, Contains, Ok, Err, Result, replicate, slice_index_or, ⊤}
+use Rattle.std.specs.Prelude.{if◌then◌else◌, nat_lt, nat_le, not, is_some, Contains, Ok, Err, Result, replicate, slice_index_or}
 use Rattle.std.specs.List.{AllByRecursion, find}
 use Rattle.std.specs.Option.{option_map}
 use Rattle.std.proofs.lemmas.List.{append-nil, set-get_or}
-use Rattle.std.proofs.lemmas.Option.{same_Some, slice_get_within, slice_get_past}
-use Rattle.std.proofs.lemmas.Bool.{cases_Bool, cond_both, cond-true, cond-false, eqb-true}
+use Rattle.std.proofs.lemmas.Option.{same_Some}
+use Rattle.std.proofs.lemmas.Bool.{le-leb, cases_Bool, cond_both, cond-true, cond-false}
 use Rattle.std.proofs.lemmas.Bool.Decides.{nat_tests}
 use Rattle.dc_base.specs.Count.{window}
 use Rattle.dc_base.specs.declared.numbers.SnLen.{SnLen}
@@ -37,19 +37,16 @@ use Rattle.pdcp_tx.specs.declared.tx.TxErr.{TxErr}
 use Rattle.pdcp_tx.specs.declared.tx.TxErr.TheVariants as refused
 use Rattle.transcript.specs.Transcript.{Entry}
 use Rattle.transcript.specs.Content.{content, link, link_number, all_links, first_loaded, mt_ctl, tm_ctl, place_taken}
-use Rattle.transcript.specs.Bearers.{Established, established, latest, open_command, unless_opening, is_opening, at_master, at_terminal, at_submitter, submitted, told}
-use Rattle.transcript.specs.Claims.{is_mm, is_ordered, is_tunnel, bearer_answer, submit_answer, step_answer, tunnel_answer, due_answer, HasCause, IsDataFlight, IsOneUse, IsFaithful}
+use Rattle.transcript.specs.Bearers.{Established, established, latest, open_command, unless_opening, is_opening, at_master, at_submitter, submitted, told}
+use Rattle.transcript.specs.Claims.{is_mm, is_ordered, is_tunnel, bearer_answer, submit_answer, step_answer, tunnel_answer, IsDataFlight, IsOneUse, IsFaithful}
 use Rattle.transcript.proofs.OnEach.{each_at}
 use Rattle.transcript.proofs.Establishing.{IsOnce, same_bearer, generation_there}
-use Rattle.dc_world.specs.Entities.{Entities, Table, bearer_in, with_bearer, no_bearers}
-use Rattle.dc_world.specs.Plane.{Outcome, leg, other, data_flight, numbered_as, air_taken, is_aged}
-use Rattle.dc_world.specs.Plane.{submitted as submitted_in}
+use Rattle.dc_world.specs.Entities.{Entities, Table, bearer_in, with_bearer}
+use Rattle.dc_world.specs.Plane.{Outcome, leg, other, numbered_as, air_taken, is_aged, submitted as submitted_in}
 use Rattle.dc_world.specs.Control.{Nodes, new_nodes, set_up, commanded, told_terminal, told_master, is_open}
-use Rattle.dc_world.specs.Links.{Links, on, moved, no_links, first_nonempty}
+use Rattle.dc_world.specs.Links.{on, moved, first_nonempty}
 use Rattle.dc_world.specs.Run.{WorldState, new_world, IsGood, is_built, unless_open, table_at, taken_from, stepped, tunnelled, tunnelled_at, decided, happen, entry_of, world_after, entries_from}
-use Rattle.dc_world.proofs.Lane.{low_is}
-use Rattle.dc_world.proofs.Sound.{or_fresh, half, sender_table, receiver_table, IsPduOf, IsAckOf, IsServed, IsTabled, Promise, Phase, idle, Happened, Sound}
-use Rattle.dc_world.proofs.Sound.{commanded as phase_commanded, answered as phase_answered}
+use Rattle.dc_world.proofs.Sound.{or_fresh, half, sender_table, receiver_table, IsPduOf, IsAckOf, Promise, Phase, idle, Happened, Sound, commanded as phase_commanded, answered as phase_answered}
 use Rattle.dc_world.proofs.Tables.{with_sender, with_receiver, is_established}
 use Rattle.dc_world.proofs.Assembly.{sound_next, served_told}
 use Rattle.dc_world.proofs.Refusing.{refused_happened}
@@ -57,14 +54,13 @@ use Rattle.dc_world.proofs.SettingUp.{set_up_happened, told_terminal_happened, t
 use Rattle.dc_world.proofs.Submitting.{submitted_happened}
 use Rattle.dc_world.proofs.Receiving.{data_happened, aged_happened}
 use Rattle.dc_world.proofs.Acking.{ack_happened}
+use Rattle.dc_world.proofs.Plain.{is_some_map}
 
+-- no place is past the end
 past_end : {X : Type 0} (xs : List X) (i : ℕ) → slice_get xs i ≡ None → length xs ≤ i
 past_end [] i none = omega arith
 past_end (x ∷ xs) zero none = absurd cc
 past_end (x ∷ xs) (suc i) none = omega (arith, past_end xs i none)
-
-is_le : (m n : ℕ) → m ≤ n → nat_le m n ≡ true
-is_le m n less = grind (arith, nat_tests)
 
 -- a submission is taken, or refused for a full window or for want of a COUNT
 taken_cases : (Q : Result (Sender × ℕ) TxErr → Type 0) (tx : Sender) (p : List ℕ)
@@ -101,11 +97,13 @@ module _ (h : Header) (policies : ℕ) (t : List Entry) (w : WorldState) (sound 
   abbrev Next : Event → Nodes × Outcome → Type 0
   Next e q = Sound h policies (t ++ record { event = e; answer = q.1.0; lines = q.1.1 } ∷ []) (record w { nodes = q.0; links = moved w.links (place_taken e q.1.0) q.1.1 })
 
+  -- an event that happened is followed by a sound state
   next : (e : Event) (q : Nodes × Outcome) → Happened h policies t w (record { event = e; answer = q.1.0; lines = q.1.1 }) q.0 → Next e q
   next e q happened = sound_next h policies t w (record { event = e; answer = q.1.0; lines = q.1.1 }) q.0 sound happened
 
   -- ---- a new bearer
 
+  -- a bearer that is refused
   refuse_bearer : (id : ℕ) (n : SnLen) (first : ℕ) (shape : Shape) (threshold policy : ℕ) (why : Refusal) → place_taken (Bearer id n first shape threshold policy) (No why) ≡ None
       → No why ≡ bearer_answer policies t id shape policy → Next (Bearer id n first shape threshold policy) (w.nodes, (No why, []))
   refuse_bearer id n first shape threshold policy why none due =
@@ -123,13 +121,10 @@ module _ (h : Header) (policies : ℕ) (t : List Entry) (w : WorldState) (sound 
       opening_is None e = refl
       opening_is (Some g) e = refl
 
+      -- what is open is so of the bearer alone
       mapped : (g : Option ℕ) (o : Option Entities) → unless_opening g (option_map (λ e. e.bearer) o) ≡ option_map (λ e. e.bearer) (unless_open g o)
       mapped g None = refl
       mapped g (Some e) = rw (opening_is g e) (elim (cases_Bool (is_open g e.bearer.g)) [ inl yes' ↦ rw yes' refl | inr no' ↦ rw no' refl ])
-
-  is_some_map : (o : Option Entities) → is_some (option_map (λ e. e.bearer) o) ≡ is_some o
-  is_some_map None = refl
-  is_some_map (Some e) = refl
 
   -- with no command open that is all that it has
   idle_has : (id : ℕ) → is_some w.nodes.busy ≡ false → is_some (at_master id t) ≡ is_some (bearer_in w.nodes.master id)
@@ -140,6 +135,7 @@ module _ (h : Header) (policies : ℕ) (t : List Entry) (w : WorldState) (sound 
       unopened None free (Some e) = refl
       unopened (Some g) free o = absurd cc
 
+  -- a bearer is set up, or refused
   bearer_sound : (id : ℕ) (n : SnLen) (first : ℕ) (shape : Shape) (threshold policy : ℕ) → id ≤ 32 → first < 2 ^ 32 - 1
       → Next (Bearer id n first shape threshold policy) (commanded policies h w.nodes id n first shape threshold policy)
   bearer_sound id n first shape threshold policy small short =
@@ -171,10 +167,12 @@ module _ (h : Header) (policies : ℕ) (t : List Entry) (w : WorldState) (sound 
   serving Dl id = unless_open w.nodes.busy (bearer_in w.nodes.master id)
   serving Ul id = bearer_in w.nodes.terminal id
 
+  -- who can be submitted to
   serving_is : (d : Dir) (id : ℕ) → at_submitter d id t ≡ option_map (λ e. e.bearer) (serving d id)
   serving_is Dl id = at_master_is id
   serving_is Ul id = sym (sound.tables.terminal_is id)
 
+  -- that is one of the tables
   serving_in : (d : Dir) (id : ℕ) (e : Entities) → serving d id ≡ Some e → bearer_in (sender_table d w.nodes) id ≡ Some e
   serving_in Dl id e is = opened w.nodes.busy (bearer_in w.nodes.master id) is
     where
@@ -183,6 +181,7 @@ module _ (h : Header) (policies : ℕ) (t : List Entry) (w : WorldState) (sound 
       opened g (Some x) is = elim (cases_Bool (is_open g x.bearer.g)) [ inl yes' ↦ (let e = rw yes' at is in absurd (cc (e))) | inr no' ↦ (let e = rw no' at is in e) ]
   serving_in Ul id e is = is
 
+  -- a submission that is refused
   refuse_submission : (id : ℕ) (d : Dir) (payload : List ℕ) (why : Refusal) → place_taken (Submit id d payload) (No why) ≡ None
       → No why ≡ submit_answer d t (at_submitter d id t) → Next (Submit id d payload) (w.nodes, (No why, []))
   refuse_submission id d payload why none due =
@@ -202,6 +201,7 @@ module _ (h : Header) (policies : ℕ) (t : List Entry) (w : WorldState) (sound 
         same Dl = refl
         same Ul = refl
 
+    -- a submission to a bearer
     submit_to : (e : Entities) → serving d id ≡ Some e → Next (Submit id d payload) (decision (submitted_in h d (sender_table d w.nodes) id payload (Some e)))
     submit_to e is =
         let at = serving_in d id e is in
@@ -226,6 +226,7 @@ module _ (h : Header) (policies : ℕ) (t : List Entry) (w : WorldState) (sound 
         (λ tx c ok. next (Submit id d payload) (decision (let done = numbered_as h d e payload (Ok (tx, c)) in (with_bearer (sender_table d w.nodes) id (Some done.0), done.1)))
         (submitted_happened h policies t w sound id d payload e tx c good at there ok))
 
+    -- any submission
     submit_any : (o : Option Entities) → serving d id ≡ o → Next (Submit id d payload) (decision (submitted_in h d (sender_table d w.nodes) id payload o))
     submit_any None is =
         subst (λ s. Next (Submit id d payload) (s, (No NoBearer, []))) (same d)
@@ -238,6 +239,7 @@ module _ (h : Header) (policies : ℕ) (t : List Entry) (w : WorldState) (sound 
 
   -- ---- a step
 
+  -- a step that is refused
   refuse_step : (l : LinkId) (i : ℕ) (why : Refusal) → place_taken (Step l i) (No why) ≡ None → No why ≡ step_answer t l i (slice_get (content l t) i)
       → Next (Step l i) (w.nodes, (No why, []))
   refuse_step l i why none due =
@@ -253,11 +255,13 @@ module _ (h : Header) (policies : ℕ) (t : List Entry) (w : WorldState) (sound 
   abbrev HasRecord : List Flight → Type 0
   HasRecord fs = (fs ≡ []) ⊎ ((r : Rec) × (fs ≡ flight.Ctl r ∷ []))
 
+  -- what stands on the control links
   records : Phase h t w.nodes w.links → HasRecord (on w.links mt_ctl) × HasRecord (on w.links tm_ctl)
   records (idle free reconf rcomp all) = (inl reconf, inl rcomp)
   records (phase_commanded b there shape threshold policy busy reconf rcomp unused lacks others) = (inr (Reconf _ h.root, reconf), inl rcomp)
   records (phase_answered b there busy reconf rcomp all) = (inl reconf, inr (Rcomp b.g, rcomp))
 
+  -- no record is aged
   young_record : (fs : List Flight) (f : Flight) (table : Table) → HasRecord fs → slice_get fs 0 ≡ Some f → is_aged table f ≡ false
   young_record fs f table (inl none) at = absurd (let e : None ≡ Some f = ap (λ (xs : List Flight). slice_get xs 0) (sym none) ∙ at in cc)
   young_record fs f table (inr (r, one)) at =
@@ -313,6 +317,7 @@ module _ (h : Header) (policies : ℕ) (t : List Entry) (w : WorldState) (sound 
       subst (Next (Step l i)) (sym (cond-false (is_aged table f) (w.nodes, (No Aged, [])) taken' young))
       (subst (λ k. Next (Step l k) taken') (sym zero_is) (next (Step l 0) taken' (happened f at_0))))
 
+  -- a step on a link
   step_at : (from to : Node) (class : Class) (i : ℕ) (f : Flight) → slice_get (on w.links (link from to class)) i ≡ Some f → Promise h t w.nodes from to class f
       → Next (Step (link from to class) i) (judged from to class i f)
   step_at M T Air i f at promise = on_leg Dl i f at promise
@@ -341,6 +346,7 @@ module _ (h : Header) (policies : ℕ) (t : List Entry) (w : WorldState) (sound 
 
   -- ---- a loss, or a repeat
 
+  -- an event of a tunnel
   tunnel_with : (e : Event) (l : LinkId) (i : ℕ) (lines : Flight → List Line) (o : Option Flight) → slice_get (on w.links l) i ≡ o
       → ((why : Refusal) → No why ≡ tunnel_answer t l i → Next e (w.nodes, (No why, [])))
       → Next e (tunnelled (record w { header = h }) l o lines)
@@ -355,10 +361,11 @@ module _ (h : Header) (policies : ℕ) (t : List Entry) (w : WorldState) (sound 
       tun_is Air e = absurd cc
       tun_is Tun e = refl
 
+      -- by what stands in the tunnel
       in_tunnel : (o : Option Flight) → slice_get (on w.links l) i ≡ o → is_tunnel l.class ≡ true → Next e (tunnelled_at (record w { header = h }) o lines)
       in_tunnel None at tunnel =
           let past : nat_le (length (content l t)) i ≡ true =
-          ap (λ (xs : List Flight). nat_le (length xs) i) (sound.contents l) ∙ is_le (length (on w.links l)) i (past_end (on w.links l) i at) in
+          ap (λ (xs : List Flight). nat_le (length xs) i) (sound.contents l) ∙ le-leb (length (on w.links l)) i (past_end (on w.links l) i at) in
           refuse NoFlight (sym (cond-false (not (is_tunnel l.class)) _ _ (ap not tunnel) ∙ cond-true _ _ _ past))
       in_tunnel (Some f) at tunnel =
           absurd (no_tunnel h t w.nodes l.from l.to f
@@ -366,6 +373,7 @@ module _ (h : Header) (policies : ℕ) (t : List Entry) (w : WorldState) (sound 
 
   -- ---- any event
 
+  -- any event
   decided_sound : (e : Event) → IsGood e → is_built e ≡ true → Next e (decided policies (record w { header = h }) e)
   decided_sound (Bearer id n first shape threshold policy) good built = bearer_sound id n first shape threshold policy good.0 good.1
   decided_sound (Submit id Dl payload) good built = submit_any id Dl payload good (serving Dl id) refl
@@ -402,6 +410,7 @@ event_sound h policies t w sound e good built =
 abbrev pub AreGood : List Event → Type 0
 AreGood es = AllByRecursion (λ e. IsGood e × (is_built e ≡ true)) es
 
+-- any run
 run_sound : (h : Header) (policies : ℕ) (t : List Entry) (w : WorldState) (es : List Event) → AreGood es → Sound h policies t w
     → Sound h policies (t ++ entries_from policies w es) (world_after policies w es)
 run_sound h policies t w [] good sound = subst (λ u. Sound h policies u w) (sym (append-nil t)) sound
@@ -415,6 +424,7 @@ none_there zero i x = refl
 none_there (suc n) zero x = refl
 none_there (suc n) (suc i) x = none_there n i x
 
+-- the new world is sound
 new_sound : (h : Header) (policies : ℕ) → Sound h policies [] (new_world h)
 new_sound h policies = record {
   header = refl;
@@ -441,6 +451,7 @@ new_sound h policies = record {
   licence = tt;
 }
 
+-- so is every run from it
 all_sound : (policies : ℕ) (h : Header) (es : List Event) → AreGood es → Sound h policies (entries_from policies (new_world h) es) (world_after policies (new_world h) es)
 all_sound policies h es good = run_sound h policies [] (new_world h) es good (new_sound h policies)
 

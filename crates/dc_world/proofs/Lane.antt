@@ -216,6 +216,7 @@ module _ (n : SnLen) (first : ℕ) (submitted : List (List ℕ)) (confirms : Lis
         | inr all ↦ let bounds = Rises-bounds first tx.next tx.kept lane.rises in omega (arith, bounds.1)
       ]
 
+  -- the next COUNT is within the window of the receiver
   pub next_near : tx.next ≤ rx.deliv + window n
   next_near = let near = lane.near in let low = low_upto in omega arith
 

@@ -7,6 +7,8 @@ use Rattle.std.proofs.lemmas.Bool.Decides.{nat_tests}
 use Rattle.pdcp_tx.specs.Sender.{Entry, least, is_kept, Rises}
 use Rattle.pdcp_tx.proofs.Entries.{Rises-bounds}
 use Rattle.transcript.specs.Bearers.{numbered, least_but}
+use Rattle.std.specs.List.{AllByRecursion}
+use Rattle.pdcp_rx.specs.Run.{IsConsecutive}
 
 -- a place of the first list is one of the two
 pub slice_get_left : {X : Type 0} (xs ys : List X) (k : ℕ) (x : X) → slice_get xs k ≡ Some x → slice_get (xs ++ ys) k ≡ Some x
@@ -94,3 +96,15 @@ least_is confirms (suc k) c es up are =
           let bounds = Rises-bounds c (c + suc k) es up in
           rw left (omega (arith, bounds.0))
     ]
+
+-- ---- what goes up
+
+-- consecutive COUNTs are not below the first
+pub consecutive_from : (a c : ℕ) (es : List (ℕ × List ℕ)) → a ≤ c → IsConsecutive c es → AllByRecursion (λ u. a ≤ u.0) es
+consecutive_from a c [] le run = tt
+consecutive_from a c (e ∷ es) le run = (omega (arith, run.0), consecutive_from a (c + 1) es (omega arith) run.1)
+
+-- two facts of each element are one
+pub each_both : {X : Type 0} (P Q : X → Type 0) (xs : List X) → AllByRecursion P xs → AllByRecursion Q xs → AllByRecursion (λ x. P x × Q x) xs
+each_both P Q [] all more = tt
+each_both P Q (x ∷ xs) all more = ((all.0, more.0), each_both P Q xs all.1 more.1)

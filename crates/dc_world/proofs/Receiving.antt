@@ -1,11 +1,10 @@
 -- A data PDU is taken, or is aged.
-use Rattle.std.proofs.Common.{ℕ, ◌≡◌, ◌+◌, ◌-◌, ◌<◌, ◌≤◌, ◌⊎◌, ◌==◌, ◌++◌, List, [], ◌∷◌, Option, Some, None, Bool, true, false, length, map, take, slice_get, refl, sym, ap, ◌∙◌, subst, arith, inl, inr}
-use Rattle.std.specs.Prelude.{Contains, Ok, nat_lt, is_some, ◌&&◌, if◌then◌else◌}
-use Rattle.std.specs.List.{AllByRecursion, flat_map, remove}
-use Rattle.std.specs.Option.{option_map}
+use Rattle.std.proofs.Common.{ℕ, ◌≡◌, ◌+◌, ◌-◌, ◌<◌, ◌≤◌, ◌⊎◌, ◌==◌, ◌++◌, List, [], ◌∷◌, Option, Some, true, false, length, map, take, slice_get, refl, sym, ap, ◌∙◌, subst, arith, inl, inr}
+use Rattle.std.specs.Prelude.{Contains, nat_lt, ◌&&◌, if◌then◌else◌}
+use Rattle.std.specs.List.{AllByRecursion, flat_map}
 use Rattle.std.proofs.lemmas.List.{append-nil}
-use Rattle.std.proofs.lemmas.Option.{same_Some, none-some}
-use Rattle.std.proofs.lemmas.Bool.{cases_Bool, eqb-true, eq-eqb, le-ltb, ltb-false, ltb-true, and_from, and_cases, and_parts, true≢false, cond-true, cond-false}
+use Rattle.std.proofs.lemmas.Option.{same_Some}
+use Rattle.std.proofs.lemmas.Bool.{eq-eqb, ltb-false, ltb-true, and_from, cond-true, cond-false}
 use Rattle.dc_base.specs.Count.{window, sn, count_for}
 use Rattle.dc_base.specs.declared.nodes.Dir.{Dir}
 use Rattle.dc_base.specs.declared.nodes.Dir.TheVariants.{Ul, Dl}
@@ -19,13 +18,12 @@ use Rattle.dc_base.specs.declared.events.Event.TheVariants.{Step}
 use Rattle.dc_base.specs.declared.events.Line.{Line}
 use Rattle.pdcp_pdu.specs.DataPdu.{IsPayload, data_pdu}
 use Rattle.pdcp_rx.specs.declared.entity.RxParts.{RxParts}
-use Rattle.pdcp_rx.specs.Run.{IsConsecutive}
 use Rattle.pdcp_rx.specs.Receiver.{put, handed_of, Received}
 use Rattle.pdcp_rx.proofs.Laws.{Received-put, Received-put_same, handed_consecutive}
 use Rattle.pdcp_tx.specs.Sender.{Sender, low}
 use Rattle.transcript.specs.Transcript.{Entry, sends, SomeEntry}
-use Rattle.transcript.specs.Content.{mt_ctl, tm_ctl, given, without_taken, put_on, on_link, reverse, direction}
-use Rattle.transcript.specs.Bearers.{Established, established, latest, is_latest, submission, submitted, ups, handed, numbered, confirmed, confirms, confirmed_by, tag_of, tags_sent, frees, is_same_dir, open_command, is_set}
+use Rattle.transcript.specs.Content.{mt_ctl, tm_ctl, given, put_on, on_link, reverse, direction}
+use Rattle.transcript.specs.Bearers.{Established, established, latest, submitted, ups, handed, numbered, confirmed, confirms, confirmed_by, tag_of, tags_sent, frees, is_same_dir}
 use Rattle.transcript.specs.Claims.{TakesData, IsDataFlight, IsProtected, Carried, IsReason, receiver, due_answer, step_answer, is_behind as is_behind_in, is_aged as is_aged_in}
 use Rattle.transcript.proofs.OnEach.{each_weaker}
 use Rattle.transcript.proofs.Growing.{SomeEntry-later, SomeEntry-last}
@@ -36,63 +34,18 @@ use Rattle.dc_world.specs.Links.{Links, on, moved}
 use Rattle.dc_world.specs.Run.{WorldState}
 use Rattle.transcript.proofs.Establishing.{submitted-next, handed-next, confirmed-next, tags_sent-next, same_bearer, is_latest_once, is_generation_once}
 use Rattle.dc_world.proofs.Lane.{IsNumbered, IsLane, numbered_below, Received-only, put_below, found_by_sn, lane_put, lane_handed}
-use Rattle.dc_world.proofs.Sound.{half, or_fresh, sender_table, receiver_table, CarriesCount, IsUnderWay, IsPduOf, IsAckOf, PromiseOf, Phase, idle, commanded, answered, listed, IsServed, IsTabled, Happened, Sound}
-use Rattle.dc_world.proofs.Tables.{with_receiver, length-with_bearer, bearer_in-other, at_the_master, is_the_bearer, deliv_is}
-use Rattle.dc_world.proofs.Contents.{on_moved}
+use Rattle.dc_world.proofs.Sound.{half, or_fresh, sender_table, receiver_table, CarriesCount, IsUnderWay, IsPduOf, IsAckOf, PromiseOf, listed, IsServed, Happened, Sound}
+use Rattle.dc_world.proofs.Tables.{with_receiver, deliv_is, Keeps, receiver_put, receiver_put_same, receiver_put_here, receiver_put_apart, keeps_all, keeps_receiver}
+use Rattle.dc_world.proofs.Directions.{each_bearer, Apart, same_dir, direction_leg, not_apart, not_named}
+use Rattle.dc_world.proofs.Plain.{IsPlain, there_then, there_before, tabled_same, phase_same}
+use Rattle.dc_world.proofs.Served.{lane_same, served_still}
+use Rattle.dc_world.proofs.Silent.{no_ups, no_frees, no_move, none_carried, none_sent_still, grows_next, IsSilent, plain_happened}
+use Rattle.dc_world.proofs.Contents.{step_given, step_due}
+use Rattle.dc_world.proofs.Leaving.{no_command, no_completion, flying_after, control_down, control_up}
+use Rattle.dc_world.proofs.Upwards.{sends_after_ups, ups_here, ups_elsewhere, frees_after_ups, has_after_ups, command_after_ups}
 use Rattle.dc_world.proofs.Taking.{taken_data, is_data_flight}
-use Rattle.dc_world.proofs.Standing.{established_stand, generation_stand, tabled_next, phase_next, lane_same, served_still, cases_dir, sender_of_other, is_same_dir_same, is_same_dir_is, sender_kept, receiver_put, receiver_of_other_kept, master_long_kept, terminal_long_kept, drawn_kept, busy_kept, received_in, at_place, entities_same, sends_after_ups, ups_here, ups_elsewhere, frees_after_ups, has_after_ups, command_after_ups, under_way_left, under_way_but}
-
--- ---- the receiver
-
--- no bearer of a submission is missing at the terminal
-not_missing : (h : Header) (t : List Entry) (s : Nodes) (links : Links) → Phase h t s links
-    → (d : Dir) (b : Established) → Contains (established t) b → (e : ℕ × List ℕ) → IsNumbered b.first (submitted b d t) e → bearer_in s.terminal b.id ≡ None → ⊥
-not_missing h t s links phase d b there e sub none =
-    elim phase [
-      | idle free no_down no_up all ↦ all b there none
-      | commanded x in_t shape threshold policy open' plan no_up unused absent only ↦
-          let same : b ≡ x = only b there none in
-          let empty : submitted b d t ≡ [] = subst (λ y. submitted y d t ≡ []) (sym same) (unused d) in
-          none-some e.1 (ap (λ xs. slice_get xs (e.0 - b.first)) (sym empty) ∙ sub.payload)
-      | answered x in_t open' no_down done all ↦ all b there none
-    ]
-
--- the receiver of a submitted PDU has its bearer
-receiver_has : (h : Header) (t : List Entry) (s : Nodes) (links : Links) → IsTabled t s → Phase h t s links
-    → (d : Dir) (b : Established) → Contains (established t) b → (e : ℕ × List ℕ) → IsNumbered b.first (submitted b d t) e
-    → (r : Entities) × (bearer_in (receiver_table d s) b.id ≡ Some r) × (r.bearer ≡ b)
-receiver_has h t s links tables phase Ul b there e sub = at_the_master t s tables b there
-receiver_has h t s links tables phase Dl b there e sub = found (bearer_in s.terminal b.id) refl
-  where
-    found : (o : Option Entities) → bearer_in s.terminal b.id ≡ o → (r : Entities) × (bearer_in s.terminal b.id ≡ Some r) × (r.bearer ≡ b)
-    found None is = absurd (not_missing h t s links phase Dl b there e sub is)
-    found (Some r) is = (r, is, is_the_bearer t s tables Ul b r there is)
-
--- ---- lists
-
--- consecutive COUNTs are not below the first
-consecutive_from : (a c : ℕ) (es : List (ℕ × List ℕ)) → a ≤ c → IsConsecutive c es → AllByRecursion (λ u. a ≤ u.0) es
-consecutive_from a c [] le run = tt
-consecutive_from a c (e ∷ es) le run = (omega (arith, run.0), consecutive_from a (c + 1) es (omega arith) run.1)
-
--- two facts of each element are one
-each_both : {X : Type 0} (P Q : X → Type 0) (xs : List X) → AllByRecursion P xs → AllByRecursion Q xs → AllByRecursion (λ x. P x × Q x) xs
-each_both P Q [] all more = tt
-each_both P Q (x ∷ xs) all more = ((all.0, more.0), each_both P Q xs all.1 more.1)
-
--- nothing, whatever the test says
-none_either : {X : Type 0} (x : Bool) (xs : List X) → xs ≡ [] → (if x then xs else []) ≡ []
-none_either true xs none = none
-none_either false xs none = refl
-
--- a window that stays moves nowhere
-none_freed : (k : ℕ) → (if nat_lt k k then k ∷ [] else []) ≡ []
-none_freed k = cond-false _ _ _ (le-ltb k k (omega arith))
-
--- an option that has nothing is None
-none_from : {X : Type 0} (o : Option X) → is_some o ≡ false → o ≡ None
-none_from None no' = refl
-none_from (Some x) no' = absurd (true≢false no')
+use Rattle.dc_world.proofs.Lists.{consecutive_from, each_both}
+use Rattle.dc_world.proofs.Having.{receiver_has}
 
 -- ---- one flight of a submission
 
@@ -128,93 +81,32 @@ module _ (h : Header) (policies : ℕ) (t : List Entry) (w : WorldState) (sound 
       ∙ ap (λ (x : Established). (x.g == b.g) && nat_lt (c + window x.n) r.rx.deliv) is
       ∙ ap (λ x. x && nat_lt (c + window b.n) r.rx.deliv) (eq-eqb b.g b.g refl)
 
-  -- it travels in its direction
-  direction_is : direction (leg d) ≡ d
-  direction_is = dir d
-    where
-      dir : (d : Dir) → direction (leg d) ≡ d
-      dir Ul = refl
-      dir Dl = refl
-
   -- and what the claim says of it
   aged_claim : is_aged_in t (leg d, f) ≡ nat_lt (c + window b.n) r.rx.deliv
   aged_claim =
       ap (λ x. x && is_behind_in t (direction (leg d)) b.g c (latest b.id (established t))) (is_data_flight h d b c p)
       ∙ ap (is_behind_in t (direction (leg d)) b.g c) latest_is
       ∙ ap (λ x. x && nat_lt (c + window b.n) (b.first + length (handed b (direction (leg d)) t))) (eq-eqb b.g b.g refl)
-      ∙ ap (λ k. nat_lt (c + window b.n) (b.first + length (handed b k t))) direction_is
+      ∙ ap (λ k. nat_lt (c + window b.n) (b.first + length (handed b k t))) (direction_leg d)
       ∙ ap (λ k. nat_lt (c + window b.n) k) (deliv_is t w.nodes w.links b d served_b ∙ ap (λ (x : Entities). x.rx.deliv) half_is)
 
   -- a step that is answered ok gives it
   given_is : (lines : List Line) → given t (record { event = Step (leg d) i; answer = answer.Ok; lines = lines }) ≡ Some (leg d, f)
-  given_is lines = ap (λ fs. option_map (λ f. (leg d, f)) (slice_get fs i)) (sound.contents (leg d)) ∙ ap (option_map (λ f. (leg d, f))) at
+  given_is = step_given t w.links sound.contents (leg d) i f at
 
   -- the answer that is due
   due_is : due_answer policies t (Step (leg d) i) ≡ (if nat_lt (c + window b.n) r.rx.deliv then answer.No Aged else answer.Ok)
   due_is =
-      ap (λ fs. step_answer t (leg d) i (slice_get fs i)) (sound.contents (leg d)) ∙ ap (step_answer t (leg d) i) at
+      step_due t w.links sound.contents (leg d) i f at
       ∙ unordered d ∙ ap (λ x. if x then answer.No Aged else answer.Ok) aged_claim
     where
       unordered : (k : Dir) → step_answer t (leg k) i (Some f) ≡ (if is_aged_in t (leg k, f) then answer.No Aged else answer.Ok)
       unordered Ul = refl
       unordered Dl = refl
 
-  -- ---- the links after it is taken away
-
-  -- what stands on a link then
-  moved_on : (lines : List Line) (l : LinkId) → on (moved w.links (Some (leg d, i)) lines) l ≡ without_taken l (Some (leg d, i)) (on w.links l) ++ put_on l lines
-  moved_on lines l = on_moved w.links (Some (leg d, i)) lines l sound.long
-
-  -- on its own leg the others are still under way
-  flying_same : (x : Established) (a : ℕ) (lines : List Line) → IsUnderWay x a (on w.links (leg d)) → CarriesCount x a f ⊎ IsUnderWay x a (on (moved w.links (Some (leg d, i)) lines) (leg d))
-  flying_same x a lines way =
-      let left : without_taken (leg d) (Some (leg d, i)) (on w.links (leg d)) ≡ remove (on w.links (leg d)) i = own d in
-      elim (under_way_but x a i f (on w.links (leg d)) at way) [
-        | inl it ↦ inl it
-        | inr still ↦ inr (subst (IsUnderWay x a) (sym (moved_on lines (leg d)))
-            (under_way_left x a _ (put_on (leg d) lines) (subst (IsUnderWay x a) (sym left) still)))
-      ]
-    where
-      own : (k : Dir) → without_taken (leg k) (Some (leg k, i)) (on w.links (leg k)) ≡ remove (on w.links (leg k)) i
-      own Ul = refl
-      own Dl = refl
-
-  -- and on the other leg all are
-  flying_other : (x : Established) (a : ℕ) (lines : List Line) → IsUnderWay x a (on w.links (leg (other d))) → IsUnderWay x a (on (moved w.links (Some (leg d, i)) lines) (leg (other d)))
-  flying_other x a lines way =
-      let left : without_taken (leg (other d)) (Some (leg d, i)) (on w.links (leg (other d))) ≡ on w.links (leg (other d)) = apart d in
-      subst (IsUnderWay x a) (sym (moved_on lines (leg (other d))))
-      (under_way_left x a _ (put_on (leg (other d)) lines) (subst (IsUnderWay x a) (sym left) way))
-    where
-      apart : (k : Dir) → without_taken (leg (other k)) (Some (leg k, i)) (on w.links (leg (other k))) ≡ on w.links (leg (other k))
-      apart Ul = refl
-      apart Dl = refl
-
   -- what was under way is so still, or it was this flight
-  flying_after : (x : Established) (k : Dir) (a : ℕ) (lines : List Line) → IsUnderWay x a (on w.links (leg k))
-      → ((k ≡ d) × CarriesCount x a f) ⊎ IsUnderWay x a (on (moved w.links (Some (leg d, i)) lines) (leg k))
-  flying_after x k a lines =
-      let P : Dir → Type 0 = λ k. IsUnderWay x a (on w.links (leg k)) → ((k ≡ d) × CarriesCount x a f) ⊎ IsUnderWay x a (on (moved w.links (Some (leg d, i)) lines) (leg k)) in
-      elim (cases_dir d k) [
-        | inl same ↦ subst P (sym same) (λ way. elim (flying_same x a lines way) [ inl it ↦ inl (refl, it) | inr still ↦ inr still ])
-        | inr apart ↦ subst P (sym apart) (λ way. inr (flying_other x a lines way))
-      ]
-
-  -- the control links are as before where nothing is put there
-  control_down : (lines : List Line) → put_on mt_ctl lines ≡ [] → on (moved w.links (Some (leg d, i)) lines) mt_ctl ≡ on w.links mt_ctl
-  control_down lines none = moved_on lines mt_ctl ∙ ap (λ fs. without_taken mt_ctl (Some (leg d, i)) (on w.links mt_ctl) ++ fs) none ∙ append-nil _ ∙ apart d
-    where
-      apart : (k : Dir) → without_taken mt_ctl (Some (leg k, i)) (on w.links mt_ctl) ≡ on w.links mt_ctl
-      apart Ul = refl
-      apart Dl = refl
-
-  -- and the one to the master too
-  control_up : (lines : List Line) → put_on tm_ctl lines ≡ [] → on (moved w.links (Some (leg d, i)) lines) tm_ctl ≡ on w.links tm_ctl
-  control_up lines none = moved_on lines tm_ctl ∙ ap (λ fs. without_taken tm_ctl (Some (leg d, i)) (on w.links tm_ctl) ++ fs) none ∙ append-nil _ ∙ apart d
-    where
-      apart : (k : Dir) → without_taken tm_ctl (Some (leg k, i)) (on w.links tm_ctl) ≡ on w.links tm_ctl
-      apart Ul = refl
-      apart Dl = refl
+  flying_on : (lines : List Line) (x : Established) (k : Dir) (a : ℕ) → IsUnderWay x a (on w.links (leg k)) → ((k ≡ d) × CarriesCount x a f) ⊎ IsUnderWay x a (on (moved w.links (Some (leg d, i)) lines) (leg k))
+  flying_on lines = flying_after w.links sound.long d i f at lines
 
   -- the flight is of this bearer alone
   carries_is : (x : Established) (a : ℕ) → Contains (established t) x → CarriesCount x a f → (b ≡ x) × (c ≡ a)
@@ -231,32 +123,25 @@ module _ (h : Header) (policies : ℕ) (t : List Entry) (w : WorldState) (sound 
     abbrev aged_links : Links
     aged_links = moved w.links (Some (leg d, i)) []
 
-    -- the bearers are as before
-    aged_stand : established (t ++ aged_entry ∷ []) ≡ established t
-    aged_stand = established_stand t aged_entry (λ g. refl)
-
-    -- so a bearer now was one before
-    aged_back : (x : Established) → Contains (established (t ++ aged_entry ∷ [])) x → Contains (established t) x
-    aged_back x in_t = subst (λ bs. Contains bs x) aged_stand in_t
-
     -- its COUNT was received already
     aged_got : Received (half b (receiver_table d w.nodes)).rx c
     aged_got = let behind = ltb-true (c + window b.n) r.rx.deliv old in subst (λ (x : Entities). Received x.rx c) (sym half_is) (inl (omega arith))
 
-    -- nothing goes up
-    aged_ups : (x : Established) (k : Dir) → ups x k t aged_entry ≡ []
-    aged_ups x k = none_either (is_latest x t) [] refl
-
-    -- nothing is confirmed
-    aged_confirms : (x : Established) (k : Dir) → confirms x k t aged_entry ≡ []
-    aged_confirms x Ul = refl
-    aged_confirms x Dl = refl
+    -- it carries no data
+    aged_silent : IsSilent t aged_entry
+    aged_silent = record {
+      submits = λ x k. refl;
+      hands = λ x k. no_ups x k t aged_entry refl;
+      moves = λ x k. no_frees x k t aged_entry refl;
+      confirms = λ x k. elim k as (λ k. confirms x k t aged_entry ≡ []) [ Ul ↦ refl | Dl ↦ refl ];
+      tags = λ l id g num. refl;
+    }
 
     -- what was under way is so still, or was received
     aged_flying : (x : Established) (k : Dir) → Contains (established t) x → (a : ℕ) → IsUnderWay x a (on w.links (leg k))
         → Received (half x (receiver_table k w.nodes)).rx a ⊎ IsUnderWay x a (on aged_links (leg k))
     aged_flying x k in_t a way =
-        elim (flying_after x k a [] way) [
+        elim (flying_on [] x k a way) [
           | inl it ↦
               let is_it = carries_is x a in_t it.1 in
               let at_dir : Received (half b (receiver_table k w.nodes)).rx c = subst (λ j. Received (half b (receiver_table j w.nodes)).rx c) (sym it.0) aged_got in
@@ -264,32 +149,12 @@ module _ (h : Header) (policies : ℕ) (t : List Entry) (w : WorldState) (sound 
           | inr still ↦ inr still
         ]
 
-    -- each bearer is served as before
-    aged_served : (x : Established) (k : Dir) → Contains (established (t ++ aged_entry ∷ [])) x → IsServed (t ++ aged_entry ∷ []) w.nodes aged_links x k
-    aged_served x k in_t =
-        let in_old = aged_back x in_t in
-        served_still t w.nodes w.links x k aged_entry w.nodes aged_links (sound.served x k in_old) refl (aged_ups x k) (aged_confirms x k) (λ num. refl) refl refl refl (aged_flying x k in_old)
-
     -- all that the refusal owes
     aged_sound : Happened h policies t w aged_entry w.nodes
-    aged_sound = record {
-      tables = tabled_next t w.nodes aged_entry w.nodes (λ g. refl) refl sound.tables refl (λ id. refl) refl refl (λ id. refl) (λ id. refl) refl refl;
-      phase = phase_next h t w.nodes w.links aged_entry w.nodes aged_links (λ g. refl) sound.phase refl (control_down [] refl) (control_up [] refl) (λ x k. refl) (λ id. refl);
-      served = aged_served;
-      grows = record {
-        there = λ x in_t. subst (λ bs. Contains bs x) (sym aged_stand) in_t;
-        numbered = λ x k in_t e n. subst (λ xs. IsNumbered x.first xs e) (sym (submitted-next x k t aged_entry ∙ append-nil _)) n;
-        received = λ x k in_t a got. got;
-      };
-      sent = tt;
-      none_sent = λ l id g num later. tags_sent-next l id g num t aged_entry ∙ append-nil _ ∙ sound.none_sent l id g num (subst (λ k. k < g) (generation_stand t aged_entry refl) later);
-      protects = λ x k in_t. tt;
-      carried = λ x k in_t. subst (AllByRecursion (λ u. SomeEntry (TakesData x k u.0) (t ++ aged_entry ∷ []))) (sym (aged_ups x k)) tt;
-      freed = λ x k in_t. none_either (is_latest x t) [] refl ∙ sym (none_freed (low (half x (sender_table k w.nodes)).tx));
-      fresh_before = λ x in_t. inl (aged_back x in_t);
-      cause = sym (due_is ∙ cond-true _ _ _ old);
-      licence = record { reasons = tt; one = omega arith };
-    }
+    aged_sound =
+        plain_happened h policies t w sound aged_entry w.nodes aged_silent refl (λ x k. refl)
+        (record { undrawn = record { no_plan = λ g. refl; no_draw = refl }; no_end = λ g. refl; no_set = λ k has. refl }) (keeps_all w.nodes)
+        (control_down w.links sound.long d i f at [] refl) (control_up w.links sound.long d i f at [] refl) aged_flying (sym (due_is ∙ cond-true _ _ _ old))
 
   -- ---- it is taken
 
@@ -321,25 +186,29 @@ module _ (h : Header) (policies : ℕ) (t : List Entry) (w : WorldState) (sound 
   abbrev t' : List Entry
   t' = t ++ entry ∷ []
 
-  -- the receiver's table then
-  abbrev table' : Table
-  table' = received_in (receiver_table d w.nodes) b.id r rx'
+  -- what the receiver holds of the bearer then
+  abbrev r' : Entities
+  r' = record r { rx = rx' }
 
   -- the nodes then
   abbrev s' : Nodes
-  s' = with_receiver d w.nodes table'
+  s' = receiver_put d w.nodes b.id r'
 
   -- the links then
   abbrev links' : Links
   links' = moved w.links (Some (leg d, i)) lines
 
-  -- the bearers are as before
-  stand : established t' ≡ established t
-  stand = established_stand t entry (λ g. refl)
+  -- it is plain
+  plain : IsPlain entry
+  plain = record {
+    undrawn = record { no_plan = λ g. refl; no_draw = refl };
+    no_end = λ g. command_after_ups b.id d ack g run;
+    no_set = λ id has. has_after_ups b.id d ack id has run;
+  }
 
-  -- so a bearer now was one before
+  -- a bearer now was one before
   back : (x : Established) → Contains (established t') x → Contains (established t) x
-  back x in_t = subst (λ bs. Contains bs x) stand in_t
+  back = there_before t entry plain.undrawn
 
   -- ---- its lines
 
@@ -356,55 +225,25 @@ module _ (h : Header) (policies : ℕ) (t : List Entry) (w : WorldState) (sound 
   confirms_none x Ul = refl
   confirms_none x Dl = ap (confirmed_by x t) (given_is lines)
 
-  -- whether this bearer and direction are those of the flight
-  abbrev hit : Established → Dir → Bool
-  hit x k = (b.id == x.id) && is_same_dir d k
-
-  -- those of the flight are
-  hit_here : hit b d ≡ true
-  hit_here = and_from (b.id == b.id) (is_same_dir d d) (eq-eqb b.id b.id refl) (is_same_dir_same d)
-
-  -- no others are
-  hit_is : (x : Established) (k : Dir) → Contains (established t) x → hit x k ≡ true → (x ≡ b) × (k ≡ d)
-  hit_is x k in_t yes' =
-      let parts = and_parts (b.id == x.id) (is_same_dir d k) yes' in
-      (sym (same_bearer (established t) b x sound.tables.once there in_t (eqb-true b.id x.id parts.0)), is_same_dir_is d k parts.1)
-
   -- the run goes up for its bearer
   ups_b : ups b d t entry ≡ run
-  ups_b = cond-true _ _ _ (is_latest_once t b sound.tables.once there) ∙ ups_here b.id d ack b d hit_here run ∙ append-nil run
+  ups_b = cond-true _ _ _ (is_latest_once t b sound.tables.once there) ∙ ups_here b.id d ack b d (and_from (b.id == b.id) (is_same_dir d d) (eq-eqb b.id b.id refl) (same_dir d)) run ∙ append-nil run
 
   -- and nothing for any other
-  ups_other : (x : Established) (k : Dir) → hit x k ≡ false → ups x k t entry ≡ []
-  ups_other x k miss = none_either (is_latest x t) _ (ups_elsewhere b.id d ack x k miss run)
+  ups_other : (x : Established) (k : Dir) → Apart d b.id k x.id → ups x k t entry ≡ []
+  ups_other x k apart = no_ups x k t entry (ups_elsewhere b.id d ack x k (not_named d b.id k x.id apart) run)
 
   -- no window moves
   frees_none : (x : Established) (k : Dir) → frees x k t entry ≡ []
-  frees_none x k = none_either (is_latest x t) _ (frees_after_ups b.id d ack x k run)
+  frees_none x k = no_frees x k t entry (frees_after_ups b.id d ack x k run)
 
   -- ---- its tables
 
-  -- the identity has a place in the table
-  small : b.id < length (receiver_table d w.nodes)
-  small = long d
-    where
-      long : (k : Dir) → b.id < length (receiver_table k w.nodes)
-      long Ul = let master_long = sound.tables.master_long in let most = (sound.tables.ranged b there).0 in omega arith
-      long Dl = let terminal_long = sound.tables.terminal_long in let most = (sound.tables.ranged b there).0 in omega arith
-
   -- what does not depend on the receiving entity is as before at each node
-  same_at : {A : Type 0} (g : Option Entities → A) → g (Some (record r { rx = rx' })) ≡ g (Some r) → (k : Dir) (id : ℕ) → g (bearer_in (sender_table k s') id) ≡ g (bearer_in (sender_table k w.nodes) id)
-  same_at {A = A} g same k id =
-      let P : Dir → Type 0 = λ k. g (bearer_in (sender_table k s') id) ≡ g (bearer_in (sender_table k w.nodes) id) in
-      elim (cases_dir d k) [
-        | inl here ↦ subst P (sym here) (ap (λ tb. g (bearer_in tb id)) (sender_kept d w.nodes table'))
-        | inr apart ↦ subst P (sym apart) (
-            ap (λ tb. g (bearer_in tb id)) (sender_of_other d s' ∙ receiver_put d w.nodes table')
-            ∙ entities_same (receiver_table d w.nodes) b.id r rx' small has g same id
-            ∙ ap (λ tb. g (bearer_in tb id)) (sym (sender_of_other d w.nodes)))
-      ]
+  same_at : {A : Type 0} (g : Option Entities → A) → g (Some r') ≡ g (Some r) → (k : Dir) (id : ℕ) → g (bearer_in (sender_table k s') id) ≡ g (bearer_in (sender_table k w.nodes) id)
+  same_at g = receiver_put_same g d w.nodes b.id r r' has
 
-  -- so are the sending entities
+  -- the sending entities are as before
   tx_same : (x : Established) (k : Dir) → (half x (sender_table k s')).tx ≡ (half x (sender_table k w.nodes)).tx
   tx_same x k = same_at (λ o. (or_fresh x o).tx) refl k x.id
 
@@ -414,50 +253,23 @@ module _ (h : Header) (policies : ℕ) (t : List Entry) (w : WorldState) (sound 
 
   -- its receiver has the new entity
   rx_here : (half b (receiver_table d s')).rx ≡ rx'
-  rx_here = ap (λ tb. (half b tb).rx) (receiver_put d w.nodes table') ∙ ap (λ o. (or_fresh b o).rx) (at_place (receiver_table d w.nodes) b.id r rx' small has)
+  rx_here = ap (λ (x : Entities). x.rx) (receiver_put_here d w.nodes b b.id r r' has refl)
 
   -- any other has the old one
-  rx_elsewhere : (x : Established) (k : Dir) → hit x k ≡ false → (half x (receiver_table k s')).rx ≡ (half x (receiver_table k w.nodes)).rx
-  rx_elsewhere x k =
-      let P : Dir → Type 0 = λ k. hit x k ≡ false → (half x (receiver_table k s')).rx ≡ (half x (receiver_table k w.nodes)).rx in
-      elim (cases_dir d k) [
-        | inl here ↦ subst P (sym here) (λ miss. elim (and_cases (b.id == x.id) (is_same_dir d d) miss) [
-          | inl not_id ↦ ap (λ tb. (half x tb).rx) (receiver_put d w.nodes table')
-              ∙ ap (λ o. (or_fresh x o).rx) (bearer_in-other (receiver_table d w.nodes) b.id x.id (Some (record r { rx = rx' })) not_id)
-          | inr not_dir ↦ absurd (true≢false (sym (is_same_dir_same d) ∙ not_dir))
-        ])
-        | inr apart ↦ subst P (sym apart) (λ miss. ap (λ tb. (half x tb).rx) (receiver_of_other_kept d w.nodes table'))
-      ]
+  rx_elsewhere : (x : Established) (k : Dir) → Apart d b.id k x.id → (half x (receiver_table k s')).rx ≡ (half x (receiver_table k w.nodes)).rx
+  rx_elsewhere x k apart = ap (λ (y : Entities). y.rx) (receiver_put_apart d w.nodes b.id r' x k apart)
 
-  -- the nodes have the bearers of the transcript
-  tabled' : IsTabled t' s'
-  tabled' =
-      let long : length table' ≡ length (receiver_table d w.nodes) = length-with_bearer (receiver_table d w.nodes) b.id (Some (record r { rx = rx' })) in
-      tabled_next t w.nodes entry s' (λ g. refl) refl sound.tables (command_after_ups b.id d ack (open_command t) run) (λ id. has_after_ups b.id d ack id (is_set id t) run)
-      (master_long_kept d w.nodes table' long) (terminal_long_kept d w.nodes table' long)
-      (same_at (option_map (λ e. e.bearer)) refl Dl) (same_at (option_map (λ e. e.bearer)) refl Ul)
-      (drawn_kept d w.nodes table') (busy_kept d w.nodes table')
+  -- each place keeps its bearer
+  keeps : Keeps w.nodes s'
+  keeps = keeps_receiver d w.nodes b.id r r' has refl
 
   -- nothing is put on the control link to the terminal
   no_control_down : put_on mt_ctl lines ≡ []
-  no_control_down = ap (λ ss. flat_map (on_link mt_ctl) ss) sends_are ∙ apart d
-    where
-      apart : (k : Dir) → flat_map (on_link mt_ctl) ((leg (other k), flight.Ack b.id b.g num) ∷ []) ≡ []
-      apart Ul = refl
-      apart Dl = refl
+  no_control_down = ap (λ ss. flat_map (on_link mt_ctl) ss) sends_are ∙ no_command (other d) (flight.Ack b.id b.g num)
 
   -- nor on that to the master
   no_control_up : put_on tm_ctl lines ≡ []
-  no_control_up = ap (λ ss. flat_map (on_link tm_ctl) ss) sends_are ∙ apart d
-    where
-      apart : (k : Dir) → flat_map (on_link tm_ctl) ((leg (other k), flight.Ack b.id b.g num) ∷ []) ≡ []
-      apart Ul = refl
-      apart Dl = refl
-
-  -- the command stands where it did
-  phase' : Phase h t' s' links'
-  phase' = phase_next h t w.nodes w.links entry s' links' (λ g. refl) sound.phase (busy_kept d w.nodes table') (control_down lines no_control_down) (control_up lines no_control_up) (λ x k. refl)
-      (λ id. same_at is_some refl Ul id)
+  no_control_up = ap (λ ss. flat_map (on_link tm_ctl) ss) sends_are ∙ no_completion (other d) (flight.Ack b.id b.g num)
 
   -- ---- its bearer
 
@@ -474,7 +286,7 @@ module _ (h : Header) (policies : ℕ) (t : List Entry) (w : WorldState) (sound 
   takes = record {
     taken = (leg d, f);
     is_given = given_is lines;
-    of_bearer = (is_data_flight h d b c p, refl, is_generation_once t b sound.tables.once there, direction_is);
+    of_bearer = (is_data_flight h d b c p, refl, is_generation_once t b sound.tables.once there, direction_leg d);
     tagged = refl;
     received = to_receiver d;
   }
@@ -509,8 +321,8 @@ module _ (h : Header) (policies : ℕ) (t : List Entry) (w : WorldState) (sound 
         came = λ a from got. came_after a from (subst (λ x. Received x a) rx_here got);
         owed = λ a from below. elim (served_b.owed a from (subst (λ (x : Sender). a < x.next) (tx_same b d) below)) [
           | inl got ↦ inl (subst (λ x. Received x a) (sym rx_here) (Received-put r.rx a c p (subst (λ (x : Entities). Received x.rx a) half_is got)))
-          | inr way ↦ elim (flying_same b a lines way) [
-            | inl it ↦ inl (subst (Received (half b (receiver_table d s')).rx) (carries_is b a there it).1 got_c)
+          | inr way ↦ elim (flying_on lines b d a way) [
+            | inl it ↦ inl (subst (Received (half b (receiver_table d s')).rx) (carries_is b a there it.1).1 got_c)
             | inr still ↦ inr still
           ]
         ];
@@ -519,23 +331,16 @@ module _ (h : Header) (policies : ℕ) (t : List Entry) (w : WorldState) (sound 
       }
 
   -- any other is served as before
-  served_elsewhere : (x : Established) (k : Dir) → Contains (established t) x → hit x k ≡ false → IsServed t' s' links' x k
-  served_elsewhere x k in_t miss =
-      served_still t w.nodes w.links x k entry s' links' (sound.served x k in_t) refl (ups_other x k miss) (confirms_none x k) (λ n. tags_none (leg k) x.id x.g n)
-      (tx_same x k) (sent_same x k) (rx_elsewhere x k miss)
-      (λ a way. elim (flying_after x k a lines way) [
-        | inl it ↦ absurd (true≢false (sym (and_from (b.id == x.id) (is_same_dir d k) (eq-eqb b.id x.id it.1.0) (subst (λ j. is_same_dir d j ≡ true) (sym it.0) (is_same_dir_same d))) ∙ miss))
-        | inr still ↦ inr still
-      ])
+  served_elsewhere : (x : Established) (k : Dir) → Contains (established t) x → Apart d b.id k x.id → IsServed t' s' links' x k
+  served_elsewhere x k in_t apart =
+      served_still t w.nodes w.links x k entry s' links' (sound.served x k in_t) (ups_other x k apart) (rx_elsewhere x k apart) refl (confirms_none x k) (λ n. tags_none (leg k) x.id x.g n)
+      (tx_same x k) (sent_same x k)
+      (λ a way. elim (flying_on lines x k a way) [ inl it ↦ absurd (not_apart d b.id k x.id apart it.0 it.1.0) | inr still ↦ inr still ])
 
   -- what holds of the bearer in its direction, and of every other, holds of all
-  all_from : (P : Established → Dir → Type 0) → P b d → ((x : Established) (k : Dir) → Contains (established t) x → hit x k ≡ false → P x k)
+  all_from : (P : Established → Dir → Type 0) → P b d → ((x : Established) (k : Dir) → Contains (established t) x → Apart d b.id k x.id → P x k)
       → (x : Established) (k : Dir) → Contains (established t) x → P x k
-  all_from P here elsewhere x k in_t =
-      elim (cases_Bool (hit x k)) [
-        | inl yes' ↦ let it = hit_is x k in_t yes' in subst (λ y. P y k) (sym it.0) (subst (P b) (sym it.1) here)
-        | inr miss ↦ elsewhere x k in_t miss
-      ]
+  all_from = each_bearer (established t) sound.tables.once b there d b.id refl
 
   -- each payload that goes up came
   run_came : AllByRecursion (λ u. SomeEntry (TakesData b d u.0) t') run
@@ -546,25 +351,20 @@ module _ (h : Header) (policies : ℕ) (t : List Entry) (w : WorldState) (sound 
   -- all that the delivery owes
   data_sound : nat_lt (c + window b.n) r.rx.deliv ≡ false → Happened h policies t w entry s'
   data_sound young = record {
-    tables = tabled';
-    phase = phase';
+    tables = tabled_same t entry plain w.nodes s' keeps sound.tables;
+    phase = phase_same t entry plain w.nodes s' keeps h w.links links' (control_down w.links sound.long d i f at lines no_control_down) (control_up w.links sound.long d i f at lines no_control_up)
+        (λ x in_t busy absent k. refl) sound.phase;
     served = λ x k in_t. all_from (λ x k. IsServed t' s' links' x k) served_here served_elsewhere x k (back x in_t);
-    grows = record {
-      there = λ x in_t. subst (λ bs. Contains bs x) (sym stand) in_t;
-      numbered = λ x k in_t e n. subst (λ xs. IsNumbered x.first xs e) (sym (submitted_is x k)) n;
-      received = λ x k in_t. all_from (λ x k. (a : ℕ) → Received (half x (receiver_table k w.nodes)).rx a → Received (half x (receiver_table k s')).rx a)
-          (λ a got. subst (λ x. Received x a) (sym rx_here) (Received-put r.rx a c p (subst (λ (x : Entities). Received x.rx a) half_is got)))
-          (λ x k in_t miss a got. subst (λ y. Received y a) (sym (rx_elsewhere x k miss)) got) x k in_t;
-    };
+    grows = grows_next t entry w.nodes s' (there_then t entry plain.undrawn) (all_from (λ x k. (a : ℕ) → Received (half x (receiver_table k w.nodes)).rx a → Received (half x (receiver_table k s')).rx a)
+        (λ a got. subst (λ x. Received x a) (sym rx_here) (Received-put r.rx a c p (subst (λ (x : Entities). Received x.rx a) half_is got)))
+        (λ x k in_t apart a got. subst (λ y. Received y a) (sym (rx_elsewhere x k apart)) got));
     sent = subst (AllByRecursion (PromiseOf h t' s')) (sym sends_are) (promise d refl, tt);
-    none_sent = λ l id g k later. tags_sent-next l id g k t entry ∙ ap (λ xs. tags_sent l id g k t ++ xs) (tags_none l id g k) ∙ append-nil _
-        ∙ sound.none_sent l id g k (subst (λ n. n < g) (generation_stand t entry refl) later);
+    none_sent = none_sent_still t entry tags_none sound.none_sent;
     protects = λ x k in_t. subst (AllByRecursion (λ s. IsDataFlight t' x k s → IsProtected h t' x k s)) (sym sends_are) ((λ data'. absurd data'), tt);
     carried = λ x k in_t. all_from (λ x k. Carried x k t entry)
         (subst (AllByRecursion (λ u. SomeEntry (TakesData b d u.0) t')) (sym ups_b) run_came)
-        (λ x k in_t miss. subst (AllByRecursion (λ u. SomeEntry (TakesData x k u.0) t')) (sym (ups_other x k miss)) tt) x k (back x in_t);
-    freed = λ x k in_t. frees_none x k ∙ sym (none_freed (low (half x (sender_table k w.nodes)).tx))
-        ∙ ap (λ y. if nat_lt (low (half x (sender_table k w.nodes)).tx) (low y) then low y ∷ [] else []) (sym (tx_same x k));
+        (λ x k in_t apart. none_carried x k t entry (ups_other x k apart)) x k (back x in_t);
+    freed = λ x k in_t. frees_none x k ∙ no_move _ _ (ap low (tx_same x k));
     fresh_before = λ x in_t. inl (back x in_t);
     cause = sym (due_is ∙ cond-false _ _ _ young);
     licence = record {
@@ -586,22 +386,24 @@ module _ (h : Header) (policies : ℕ) (t : List Entry) (w : WorldState) (sound 
       reversed Ul = refl
       reversed Dl = refl
 
+      -- its confirm is one of the bearer
       the_ack : IsAckOf t' s' d (flight.Ack b.id b.g num)
       the_ack = record {
         bearer = b;
-        there = subst (λ bs. Contains bs b) (sym stand) there;
+        there = there_then t entry plain.undrawn b there;
         count = c;
         counted = sub.counted;
         got = got_c;
         is = refl;
       }
 
+      -- so its promise holds
       promise : (k : Dir) → k ≡ d → PromiseOf h t' s' (leg (other k), flight.Ack b.id b.g num)
       promise Ul is_d = inr (subst (λ k. IsAckOf t' s' k (flight.Ack b.id b.g num)) (sym is_d) the_ack)
       promise Dl is_d = inr (subst (λ k. IsAckOf t' s' k (flight.Ack b.id b.g num)) (sym is_d) the_ack)
 
   -- what the receiver's rule makes of it
-  taken_is : IsPayload p → nat_lt (c + window b.n) r.rx.deliv ≡ false → air_taken h d (receiver_table d w.nodes) f ≡ (table', lines)
+  taken_is : IsPayload p → nat_lt (c + window b.n) r.rx.deliv ≡ false → air_taken h d (receiver_table d w.nodes) f ≡ (with_bearer (receiver_table d w.nodes) b.id (Some r'), lines)
   taken_is good young =
       let before = lane_r.small in let below = below_next in
       let near : r.rx.deliv ≤ c + window b.n = ltb-false (c + window b.n) r.rx.deliv young in

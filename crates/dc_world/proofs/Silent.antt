@@ -1,26 +1,76 @@
--- An entry that carries no data or draws nothing: what it keeps, and a bearer that carried nothing yet.
-use Rattle.std.proofs.Common.{◌==◌, ℕ, ◌≡◌, ◌+◌, ◌-◌, ◌^◌, ◌<◌, ◌≤◌, ◌++◌, List, [], ◌∷◌, Some, length, take, slice_get, refl, sym, ap, ◌∙◌, subst, arith, inl, inr, append-nil, Bool, true, false}
+-- What an entry keeps that carries no data.
+use Rattle.std.proofs.Common.{ℕ, ◌≡◌, ◌+◌, ◌≤◌, ◌++◌, List, [], ◌∷◌, length, refl, sym, ap, ◌∙◌, subst, arith, inl, inr, append-nil, ◌⊎◌}
 use Rattle.std.specs.Prelude.{if◌then◌else◌, nat_lt, Contains}
-use Rattle.std.specs.List.{list_any, AllByRecursion, flat_map}
-use Rattle.std.proofs.Math.Seq.{take-nil}
-use Rattle.std.proofs.lemmas.Option.{slice_get_past}
-use Rattle.std.proofs.lemmas.Bool.{cond-false, le-ltb}
+use Rattle.std.specs.List.{AllByRecursion, flat_map}
+use Rattle.std.proofs.lemmas.Bool.{cond-false, le-ltb, cases_Bool}
 use Rattle.dc_base.specs.declared.nodes.Dir.{Dir}
 use Rattle.dc_base.specs.declared.nodes.LinkId.{LinkId}
-use Rattle.pdcp_tx.specs.Sender.{Sender, Entry as Kept, low, least, Rises}
-use Rattle.pdcp_rx.specs.declared.entity.RxParts.{RxParts}
-use Rattle.pdcp_rx.specs.Entries.{AscendFrom}
+use Rattle.pdcp_tx.specs.Sender.{low}
 use Rattle.pdcp_rx.specs.Receiver.{Received}
 use Rattle.transcript.specs.Transcript.{Entry, sends, SomeEntry}
-use Rattle.transcript.specs.Bearers.{Established, established, generation, submission, submitted, ups, handed, numbered, confirms, confirmed, tag_of, tags_sent, frees, established_by, plans, plan_drawn, is_draw}
-use Rattle.transcript.specs.Claims.{TakesData, Carried}
-use Rattle.dc_world.specs.Entities.{fresh}
+use Rattle.transcript.specs.Bearers.{Established, established, generation, submission, submitted, ups, handed, confirms, confirmed, tag_of, tags_sent, frees, up_of, freed_of, is_latest}
+use Rattle.transcript.specs.Claims.{TakesData, Carried, IsDataFlight, IsProtected, IsReason, HasCause}
 use Rattle.dc_world.specs.Plane.{leg}
 use Rattle.dc_world.specs.Control.{Nodes}
-use Rattle.dc_world.specs.Links.{Links}
-use Rattle.transcript.proofs.Establishing.{confirmed-next, submitted-next, handed-next, tags_sent-next, generation-next, established-next, plans-next}
-use Rattle.dc_world.proofs.Lane.{IsNumbered, IsLane}
-use Rattle.dc_world.proofs.Sound.{half, sender_table, receiver_table, listed, IsServed, Grows, NoneSent}
+use Rattle.dc_world.specs.Links.{Links, on, moved}
+use Rattle.transcript.proofs.Establishing.{confirmed-next, submitted-next, handed-next, tags_sent-next, generation-next}
+use Rattle.dc_world.proofs.Lane.{IsNumbered, IsNumbered-later}
+use Rattle.dc_world.proofs.Sound.{half, sender_table, receiver_table, Grows, NoneSent, IsUnderWay, IsTabled, Phase, PromiseOf, Happened, Sound}
+use Rattle.transcript.specs.Content.{mt_ctl, tm_ctl, place_taken}
+use Rattle.dc_base.specs.declared.events.Header.{Header}
+use Rattle.dc_base.specs.declared.flights.Flight.{Flight}
+use Rattle.dc_base.specs.declared.nodes.Dir.TheVariants.{Ul, Dl}
+use Rattle.dc_world.specs.Entities.{Entities}
+use Rattle.dc_world.specs.Run.{WorldState}
+use Rattle.dc_world.proofs.Tables.{Keeps}
+use Rattle.dc_world.proofs.Plain.{IsUndrawn, IsPlain, there_then, there_before, tabled_same, phase_same}
+use Rattle.dc_world.proofs.Served.{served_still}
+
+-- ---- what an entry does not say
+
+-- nothing goes up
+pub no_ups : (b : Established) (d : Dir) (t : List Entry) (e : Entry) → flat_map (up_of b d) e.lines ≡ [] → ups b d t e ≡ []
+no_ups b d t e none = elim (cases_Bool (is_latest b t)) [ inl now ↦ rw now none | inr past ↦ rw past refl ]
+
+-- no window moves
+pub no_frees : (b : Established) (d : Dir) (t : List Entry) (e : Entry) → flat_map (freed_of b d) e.lines ≡ [] → frees b d t e ≡ []
+no_frees b d t e none = elim (cases_Bool (is_latest b t)) [ inl now ↦ rw now none | inr past ↦ rw past refl ]
+
+-- none moves where Low stays
+pub no_move : (low low' : ℕ) → low' ≡ low → [] ≡ (if nat_lt low low' then low' ∷ [] else [])
+no_move low low' same = sym (cond-false _ _ _ (le-ltb low low' (omega arith)))
+
+-- what goes up is carried, where nothing does
+pub none_carried : (b : Established) (d : Dir) (t : List Entry) (e : Entry) → ups b d t e ≡ [] → Carried b d t e
+none_carried b d t e none = subst (AllByRecursion (λ up. SomeEntry (TakesData b d up.0) (t ++ e ∷ []))) (sym none) tt
+
+-- nothing more was gathered
+none_more : {A : Type 0} (xs ys : List A) → ys ≡ [] → xs ++ ys ≡ xs
+none_more xs ys none = ap (λ zs. xs ++ zs) none ∙ append-nil xs
+
+-- nothing was sent of generations to come
+pub none_sent_still : (t : List Entry) (e : Entry) → ((l : LinkId) (id g num : ℕ) → flat_map (tag_of l id g num) (sends e.lines) ≡ []) → NoneSent t → NoneSent (t ++ e ∷ [])
+none_sent_still t e tags none l id g num later =
+    let counted : generation (t ++ e ∷ []) ≡ generation t + _ = generation-next t e in
+    tags_sent-next l id g num t e ∙ none_more (tags_sent l id g num t) _ (tags l id g num) ∙ none l id g num (omega arith)
+
+-- what flights speak of is still so
+pub grows_next : (t : List Entry) (e : Entry) (s s' : Nodes) → ((b : Established) → Contains (established t) b → Contains (established (t ++ e ∷ [])) b)
+    → ((b : Established) (d : Dir) → Contains (established t) b → (c : ℕ) → Received (half b (receiver_table d s)).rx c → Received (half b (receiver_table d s')).rx c)
+    → Grows t s (t ++ e ∷ []) s'
+grows_next t e s s' there received = record {
+  there = there;
+  numbered = λ b d at x is. subst (λ xs. IsNumbered b.first xs x) (sym (submitted-next b d t e)) (IsNumbered-later b.first (submitted b d t) (submission b d t e) x is);
+  received = received;
+}
+
+-- so it is where each receiving entity is as before
+pub grows_same : (t : List Entry) (e : Entry) (s s' : Nodes) → ((b : Established) → Contains (established t) b → Contains (established (t ++ e ∷ [])) b)
+    → ((b : Established) (d : Dir) → Contains (established t) b → (half b (receiver_table d s')).rx ≡ (half b (receiver_table d s)).rx)
+    → Grows t s (t ++ e ∷ []) s'
+grows_same t e s s' there same = grows_next t e s s' there (λ b d at c got. subst (λ r. Received r c) (sym (same b d at)) got)
+
+-- ---- an entry that carries no data
 
 -- the entry submits, hands up, frees, confirms and sends no data
 pub record IsSilent (t : List Entry) (e : Entry) : Type 0 where
@@ -29,10 +79,6 @@ pub record IsSilent (t : List Entry) (e : Entry) : Type 0 where
   pub moves : (b : Established) (d : Dir) → frees b d t e ≡ []
   pub confirms : (b : Established) (d : Dir) → confirms b d t e ≡ []
   pub tags : (l : LinkId) (id g num : ℕ) → flat_map (tag_of l id g num) (sends e.lines) ≡ []
-
--- nothing more was gathered
-none_more : {A : Type 0} (xs ys : List A) → ys ≡ [] → xs ++ ys ≡ xs
-none_more xs ys none = ap (λ zs. xs ++ zs) none ∙ append-nil xs
 
 module _ (t : List Entry) (e : Entry) (silent : IsSilent t e) where
   -- nothing more was submitted
@@ -51,151 +97,48 @@ module _ (t : List Entry) (e : Entry) (silent : IsSilent t e) where
   pub tags_same : (l : LinkId) (id g num : ℕ) → tags_sent l id g num (t ++ e ∷ []) ≡ tags_sent l id g num t
   tags_same l id g num = tags_sent-next l id g num t e ∙ none_more (tags_sent l id g num t) (flat_map (tag_of l id g num) (sends e.lines)) (silent.tags l id g num)
 
-  -- nothing was sent of generations to come
-  pub none_sent_still : NoneSent t → NoneSent (t ++ e ∷ [])
-  none_sent_still none l id g num later =
-      let counted : generation (t ++ e ∷ []) ≡ generation t + _ = generation-next t e in
-      tags_same l id g num ∙ none l id g num (omega arith)
+-- ---- all that such an entry owes, which sends nothing
 
-  -- what it hands up is nothing
-  pub none_carried : (b : Established) (d : Dir) → Carried b d t e
-  none_carried b d = subst (AllByRecursion (λ up. SomeEntry (TakesData b d up.0) (t ++ e ∷ []))) (sym (silent.hands b d)) tt
+module _ (h : Header) (policies : ℕ) (t : List Entry) (w : WorldState) (sound : Sound h policies t w) (e : Entry) (s' : Nodes) (silent : IsSilent t e) (quiet : sends e.lines ≡ [])
+    (same : (b : Established) (d : Dir) → half b (sender_table d s') ≡ half b (sender_table d w.nodes)) where
+  -- the links after it
+  abbrev links' : Links
+  links' = moved w.links (place_taken e.event e.answer) e.lines
 
-  -- no window moves
-  pub none_freed : (b : Established) (d : Dir) (tx tx' : Sender) → low tx' ≡ low tx → frees b d t e ≡ (if nat_lt (low tx) (low tx') then low tx' ∷ [] else [])
-  none_freed b d tx tx' same = silent.moves b d ∙ sym (cond-false _ _ _ (le-ltb (low tx) (low tx') (omega arith)))
+  -- each node receives with what it had
+  receiver_same : (b : Established) (d : Dir) → half b (receiver_table d s') ≡ half b (receiver_table d w.nodes)
+  receiver_same b Dl = same b Ul
+  receiver_same b Ul = same b Dl
 
-  -- what was submitted and received stays so
-  pub still_grows : (s s' : Nodes) → ((b : Established) → Contains (established t) b → Contains (established (t ++ e ∷ [])) b)
-      → ((b : Established) (d : Dir) → Contains (established t) b → (half b (receiver_table d s')).rx ≡ (half b (receiver_table d s)).rx) → Grows t s (t ++ e ∷ []) s'
-  still_grows s s' there same = record {
-    there = there;
-    numbered = λ b d at x n. subst (λ xs. IsNumbered b.first xs x) (sym (submitted_same b d)) n;
-    received = λ b d at c got. subst (λ r. Received r c) (sym (same b d at)) got;
+  -- where it draws nothing, with the tables and the phase after it
+  pub silent_happened : IsUndrawn e → IsTabled (t ++ e ∷ []) s' → Phase h (t ++ e ∷ []) s' links'
+      → ((b : Established) (d : Dir) → Contains (established t) b → (c : ℕ) → IsUnderWay b c (on w.links (leg d)) → Received (half b (receiver_table d w.nodes)).rx c ⊎ IsUnderWay b c (on links' (leg d)))
+      → HasCause policies t e → Happened h policies t w e s'
+  silent_happened undrawn tables phase flying due = record {
+    tables = tables;
+    phase = phase;
+    served = λ b d there.
+        let was = there_before t e undrawn b there in
+        served_still t w.nodes w.links b d e s' links' (sound.served b d was) (silent.hands b d) (ap (λ (x : Entities). x.rx) (receiver_same b d))
+        (silent.submits b d) (silent.confirms b d) (silent.tags (leg d) b.id b.g) (ap (λ (x : Entities). x.tx) (same b d)) (ap (λ (x : Entities). x.sent) (same b d)) (flying b d was);
+    grows = grows_same t e w.nodes s' (there_then t e undrawn) (λ b d there. ap (λ (x : Entities). x.rx) (receiver_same b d));
+    sent = subst (AllByRecursion (PromiseOf h (t ++ e ∷ []) s')) (sym quiet) tt;
+    none_sent = none_sent_still t e silent.tags sound.none_sent;
+    protects = λ b d there. subst (AllByRecursion (λ s. IsDataFlight (t ++ e ∷ []) b d s → IsProtected h (t ++ e ∷ []) b d s)) (sym quiet) tt;
+    carried = λ b d there. none_carried b d t e (silent.hands b d);
+    freed = λ b d there. silent.moves b d ∙ no_move _ _ (ap (λ (x : Entities). low x.tx) (same b d));
+    fresh_before = λ b there. inl (there_before t e undrawn b there);
+    cause = due;
+    licence = record {
+      reasons = subst (AllByRecursion (IsReason h t e)) (sym quiet) tt;
+      one = subst (λ (ss : List (LinkId × Flight)). length ss ≤ 1) (sym quiet) (omega arith);
+    };
   }
 
--- ---- a bearer that carried nothing
-
--- its sending entity, and the COUNTs sent on its leg
-pub record IsBare (b : Established) (tx : Sender) (sent : List ℕ) : Type 0 where
-  pub n_is : tx.n ≡ b.n
-  pub next_is : tx.next ≡ b.first
-  pub none_kept : tx.kept ≡ []
-  pub none_sent : sent ≡ []
-
--- a fresh bearer has sent nothing
-pub fresh_bare : (b : Established) → IsBare b (fresh b).tx (fresh b).sent
-fresh_bare b = record { n_is = refl; next_is = refl; none_kept = refl; none_sent = refl }
-
--- its window begins at its first COUNT
-pub bare_low : (b : Established) (tx : Sender) (sent : List ℕ) → IsBare b tx sent → low tx ≡ b.first
-bare_low b tx sent bare = ap (λ kept. least tx.next kept) bare.none_kept ∙ bare.next_is
-
--- none of it is received
-none_received : (b : Established) (c : ℕ) → b.first ≤ c → Received (fresh b).rx c → ⊥
-none_received b c le got = elim got [ inl below ↦ omega arith | inr stored ↦ cc ]
-
--- so nothing was owed
-bare_lane : (b : Established) (counts : List ℕ) (tx : Sender) (sent : List ℕ) (rx : RxParts) → b.first < 2 ^ 32 - 1 → ((c : ℕ) → b.first ≤ c → list_any (λ x. x == c) counts ≡ false) → IsBare b tx sent → rx ≡ (fresh b).rx
-    → IsLane b.n b.first [] counts tx sent rx
-bare_lane b counts tx sent rx small unconfirmed bare is =
-    let next_is = bare.next_is in
-    record {
-      tx_length = bare.n_is;
-      rx_length = ap (λ r. r.n) is;
-      counted = next_is ∙ omega arith;
-      small = omega arith;
-      sent_are = bare.none_sent;
-      rises = subst (Rises b.first tx.next) (sym bare.none_kept) (omega arith);
-      near = let low_is = bare_low b tx sent bare in omega arith;
-      kept_are = λ c le lt. absurd (omega arith);
-      not_yet = λ c le. unconfirmed c (omega arith);
-      from = let deliv_is : rx.deliv ≡ b.first = ap (λ r. r.deliv) is in omega arith;
-      upto = let deliv_is : rx.deliv ≡ b.first = ap (λ r. r.deliv) is in omega arith;
-      ascends = subst (λ r. AscendFrom (r.deliv + 1) r.stored) (sym is) tt;
-      stored = subst (λ r. AllByRecursion (IsNumbered b.first []) r.stored) (sym is) tt;
-      found = λ c le lt. absurd (omega arith);
-    }
-
--- nothing rises from a COUNT to itself
-no_kept : (from next : ℕ) (es : List Kept) → next ≤ from → Rises from next es → es ≡ []
-no_kept from next [] le rises = refl
-no_kept from next (e ∷ es) le rises = let above = rises_below (e.0 + 1) next es rises.1 in let first = rises.0 in absurd (omega arith)
-  where
-    -- what rises does not end lower
-    rises_below : (from next : ℕ) (es : List Kept) → Rises from next es → from ≤ next
-    rises_below from next [] rises = rises
-    rises_below from next (e ∷ es) rises = let above = rises_below (e.0 + 1) next es rises.1 in let first = rises.0 in omega arith
-
--- nothing is stored of nothing submitted
-none_stored : (first : ℕ) (es : List (ℕ × List ℕ)) → AllByRecursion (IsNumbered first []) es → es ≡ []
-none_stored first [] all = refl
-none_stored first (e ∷ es) all = let there : slice_get [] (e.0 - first) ≡ Some e.1 = all.0.payload in absurd (cc (slice_get_past {X = List ℕ} [] (e.0 - first) (omega arith)))
-
--- nothing was sent
-nothing_listed : (sent : List ℕ) (num : ℕ) → sent ≡ [] → listed (slice_get sent num) ≡ []
-nothing_listed sent num none = ap listed (slice_get_past sent num (let long : length sent ≡ 0 = ap (λ (xs : List ℕ). length xs) none in omega arith))
-
--- a receiving entity that received nothing
-empty_rx : (b : Established) (rx : RxParts) → rx.n ≡ b.n → rx.deliv ≡ b.first → rx.stored ≡ [] → rx ≡ (fresh b).rx
-empty_rx b rx n_is deliv_is stored_is =
-    let by_n : rx ≡ record rx { n = b.n } = ap (λ n. record rx { n = n }) n_is in
-    let by_deliv : record rx { n = b.n } ≡ record rx { n = b.n; deliv = b.first } = ap (λ c. record rx { n = b.n; deliv = c }) deliv_is in
-    let by_stored : record rx { n = b.n; deliv = b.first } ≡ (fresh b).rx = ap (λ es. record { n = b.n; deliv = b.first; stored = es }) stored_is in
-    by_n ∙ by_deliv ∙ by_stored
-
-module _ (t : List Entry) (s : Nodes) (links : Links) (b : Established) (d : Dir) where
-  -- it is served
-  pub bare_served : b.first < 2 ^ 32 - 1 → submitted b d t ≡ [] → handed b d t ≡ [] → ((num : ℕ) → tags_sent (leg d) b.id b.g num t ≡ [])
-      → ((c : ℕ) → b.first ≤ c → list_any (λ x. x == c) (confirmed b d t) ≡ false) → IsBare b (half b (sender_table d s)).tx (half b (sender_table d s)).sent → (half b (receiver_table d s)).rx ≡ (fresh b).rx → IsServed t s links b d
-  bare_served small submits hands tags unconfirmed bare is =
-      let tx = (half b (sender_table d s)).tx in let sent = (half b (sender_table d s)).sent in let rx = (half b (receiver_table d s)).rx in
-      let next_is : tx.next ≡ b.first = bare.next_is in
-      record {
-        lane = subst (λ xs. IsLane b.n b.first xs (confirmed b d t) tx sent rx) (sym submits) (bare_lane b (confirmed b d t) tx sent rx small unconfirmed bare is);
-        handed_is = hands ∙ sym (ap (λ xs. numbered b.first (take (rx.deliv - b.first) xs)) submits ∙ ap (numbered b.first) (take-nil (rx.deliv - b.first)));
-        came = λ c le got. absurd (none_received b c le (subst (λ r. Received r c) is got));
-        owed = λ c le lt. absurd (omega arith);
-        numbers = λ num. tags num ∙ sym (nothing_listed sent num bare.none_sent);
-      }
-
-  -- a bearer that is served carried nothing if nothing was submitted
-  pub none_yet : IsServed t s links b d → submitted b d t ≡ []
-      → IsBare b (half b (sender_table d s)).tx (half b (sender_table d s)).sent × ((half b (receiver_table d s)).rx ≡ (fresh b).rx)
-      × (handed b d t ≡ []) × ((num : ℕ) → tags_sent (leg d) b.id b.g num t ≡ []) × ((c : ℕ) → b.first ≤ c → list_any (λ x. x == c) (confirmed b d t) ≡ false)
-  none_yet served submits =
-      let tx = (half b (sender_table d s)).tx in let sent = (half b (sender_table d s)).sent in let rx = (half b (receiver_table d s)).rx in
-      let lane : IsLane b.n b.first [] (confirmed b d t) tx sent rx = subst (λ xs. IsLane b.n b.first xs (confirmed b d t) tx sent rx) submits served.lane in
-      let counted : tx.next ≡ b.first + 0 = lane.counted in
-      let next_is : tx.next ≡ b.first = omega arith in
-      let sent_are : sent ≡ [] = lane.sent_are in
-      let deliv_is : rx.deliv ≡ b.first = (let from = lane.from in let upto = lane.upto in omega arith) in
-      let stored_is : rx.stored ≡ [] = none_stored b.first rx.stored lane.stored in
-      let rx_length : rx.n ≡ b.n = lane.rx_length in
-      let bare : IsBare b tx sent = record { n_is = lane.tx_length; next_is = next_is; none_kept = no_kept b.first tx.next tx.kept (omega arith) lane.rises; none_sent = sent_are } in (
-        bare,
-        empty_rx b rx rx_length deliv_is stored_is,
-        served.handed_is ∙ ap (λ xs. numbered b.first (take (rx.deliv - b.first) xs)) submits ∙ ap (numbered b.first) (take-nil (rx.deliv - b.first)),
-        λ num. served.numbers num ∙ nothing_listed sent num sent_are,
-        λ c le. lane.not_yet c (omega arith),
-      )
-
--- ---- one more entry that draws nothing
-
-module _ (t : List Entry) (e : Entry) (none : plan_drawn t e ≡ []) (still : is_draw e ≡ false) where
-  -- no plan more
-  pub plans_same : plans (t ++ e ∷ []) ≡ plans t
-  plans_same = plans-next t e ∙ ap (λ ps. plans t ++ ps) none ∙ append-nil (plans t)
-
-  -- no bearer more
-  pub established_same : established (t ++ e ∷ []) ≡ established t
-  established_same = established-next t e ∙ ap (λ ps. established t ++ flat_map (λ p. flat_map (established_by p.g) p.items) ps) none ∙ append-nil (established t)
-
-  -- no generation more
-  pub generation_same : generation (t ++ e ∷ []) ≡ generation t
-  generation_same = generation-next t e ∙ ap (λ b. generation t + (if b then 1 else 0)) still ∙ omega arith
-
--- both choices are the same
-pub same_choice : {A : Type 0} (b : Bool) (x : A) → (if b then x else x) ≡ x
-same_choice true x = refl
-same_choice false x = refl
+  -- where it is plain and touches no control link
+  pub plain_happened : IsPlain e → Keeps w.nodes s' → on links' mt_ctl ≡ on w.links mt_ctl → on links' tm_ctl ≡ on w.links tm_ctl
+      → ((b : Established) (d : Dir) → Contains (established t) b → (c : ℕ) → IsUnderWay b c (on w.links (leg d)) → Received (half b (receiver_table d w.nodes)).rx c ⊎ IsUnderWay b c (on links' (leg d)))
+      → HasCause policies t e → Happened h policies t w e s'
+  plain_happened plain keeps down up =
+      silent_happened plain.undrawn (tabled_same t e plain w.nodes s' keeps sound.tables)
+      (phase_same t e plain w.nodes s' keeps h w.links links' down up (λ b there busy absent d. silent.submits b d) sound.phase)

@@ -1,11 +1,11 @@
 -- A payload is submitted and taken.
 use Rattle.std.proofs.Common.{ℕ, zero, suc, ◌≡◌, ◌+◌, ◌-◌, ◌^◌, ◌<◌, ◌≤◌, ◌⊎◌, ◌==◌, ◌++◌, List, [], ◌∷◌, Some, None, true, false, length, slice_get, refl, sym, ap, ◌∙◌, subst, arith, inl, inr}
-use Rattle.std.specs.Prelude.{Contains, Ok, nat_le, nat_lt, if◌then◌else◌}
-use Rattle.std.specs.List.{AllByRecursion, flat_map}
+use Rattle.std.specs.Prelude.{Contains, Ok, if◌then◌else◌}
+use Rattle.std.specs.List.{flat_map}
 use Rattle.std.proofs.lemmas.List.{append-nil, length_push}
 use Rattle.std.proofs.lemmas.List.FromFn.{length-range_with_len}
 use Rattle.std.proofs.lemmas.Option.{none-some}
-use Rattle.std.proofs.lemmas.Bool.{cases_Bool, cases_lt, eqb-true, eqb-false, eq-eqb, ne_eqb, leb-false, cond-false, cond-true}
+use Rattle.std.proofs.lemmas.Bool.{lt-leb, cases_Bool, cases_lt, eqb-true, eq-eqb, ne_eqb, cond-false, cond-true}
 use Rattle.std.proofs.lemmas.Bool.Decides.{nat_tests}
 use Rattle.dc_base.specs.Count.{window, sn}
 use Rattle.dc_base.specs.declared.nodes.Dir.{Dir}
@@ -17,15 +17,13 @@ use Rattle.dc_base.specs.declared.events.Header.{Header}
 use Rattle.dc_base.specs.declared.events.Event.TheVariants.{Submit}
 use Rattle.dc_base.specs.declared.events.Line.TheVariants as line
 use Rattle.pdcp_pdu.specs.DataPdu.{IsPayload, data_pdu}
-use Rattle.pdcp_tx.specs.Sender.{Sender, least, low}
-use Rattle.pdcp_tx.specs.Sender.{Entry as Kept}
+use Rattle.pdcp_tx.specs.Sender.{Sender, low}
 use Rattle.pdcp_tx.specs.Sending.{taken}
-use Rattle.pdcp_rx.specs.declared.entity.RxParts.{RxParts}
 use Rattle.pdcp_rx.specs.Receiver.{Received}
-use Rattle.transcript.specs.Transcript.{Entry, sends, SomeEntry}
-use Rattle.transcript.specs.Content.{mt_ctl, tm_ctl, put_on, direction, is_same_link}
+use Rattle.transcript.specs.Transcript.{Entry, sends}
+use Rattle.transcript.specs.Content.{mt_ctl, tm_ctl, put_on, is_same_link}
 use Rattle.transcript.specs.Bearers.{Established, established, latest, generation, is_same_dir, submission, submitted, confirms, confirmed, tag_of, told, open_command, at_submitter, unless_opening, master_key, key_in}
-use Rattle.transcript.specs.Claims.{TakesData, Protects, ProtectsSubmission, IsLicensed, submit_answer}
+use Rattle.transcript.specs.Claims.{Protects, ProtectsSubmission, IsLicensed, submit_answer}
 use Rattle.dc_world.specs.Entities.{Entities, bearer_in, with_bearer}
 use Rattle.dc_world.specs.Plane.{leg, other, ciphered, data_flight}
 use Rattle.dc_world.specs.Control.{Nodes}
@@ -35,43 +33,15 @@ use Rattle.transcript.proofs.Establishing.{submitted-next, tags_sent-next, same_
 use Rattle.dc_world.proofs.Lists.{slice_get_last}
 use Rattle.dc_world.proofs.Lane.{IsLane, low_is, lane_taken}
 use Rattle.dc_world.proofs.Taking.{is_data_flight}
-use Rattle.dc_world.proofs.Tables.{with_sender, is_established}
+use Rattle.dc_world.proofs.Tables.{with_sender, is_established, Keeps, half_at, sender_put_here, sender_put_apart, sender_put_rx, keeps_sender}
 use Rattle.dc_world.proofs.Contents.{on_moved}
-use Rattle.dc_world.proofs.Changing.{IsPlain, plans_same, generation_same, there_then, there_before, Keeps, keeps_changed, half_at, half_here, Apart, parted, sender_after, sender_apart, tabled_same, grows_same, phase_same, served_next, served_still, no_ups, no_frees, no_move, under_way_left}
+use Rattle.dc_world.proofs.Directions.{each_bearer, Apart, same_dir, other_dir, direction_leg}
+use Rattle.dc_world.proofs.Plain.{IsPlain, plans_same, generation_same, there_then, there_before, tabled_same, phase_same}
+use Rattle.dc_world.proofs.Served.{lane_same, under_way_left, served_next, served_still}
+use Rattle.dc_world.proofs.Silent.{no_ups, no_frees, no_move, none_carried, grows_same}
 use Rattle.dc_world.proofs.Sound.{half, sender_table, receiver_table, IsPduOf, IsUnderWay, PromiseOf, Phase, listed, IsServed, NoneSent, Happened, Sound}
-
--- ---- the sending entity
-
--- Low stays where one more is kept, under the next COUNT
-least_push : (next : ℕ) (p : List ℕ) (es : List Kept) → least (next + 1) (es ++ (next, p) ∷ []) ≡ least next es
-least_push next p [] = omega arith
-least_push next p (x ∷ es) = let rest = least_push next p es in omega arith
-
--- why a submission is taken, and that Low stays
-record HasRoom (s after : Sender) : Type 0 where
-  room : s.next < low s + window s.n
-  left : s.next ≡ 2 ^ 32 - 1 → ⊥
-  still : low after ≡ low s
-
--- a submission that is taken had room
-has_room : (s after : Sender) (p : List ℕ) (c : ℕ) → taken s p ≡ Ok (after, c) → HasRoom s after
-has_room s after p c ok =
-    elim (cases_Bool (nat_le (low s + window s.n) s.next)) [
-      | inl full ↦ let f = rw full at ok in absurd (cc (f))
-      | inr room ↦
-          let f = rw room at ok in
-          elim (cases_Bool (s.next == 2 ^ 32 - 1)) [
-            | inl last ↦ let g = rw last at f in absurd (cc (g))
-            | inr left ↦
-                let g = rw left at f in
-                let is : ◌≡◌ {A = Sender × ℕ} (record s { next = s.next + 1; kept = s.kept ++ (s.next, p) ∷ [] }, s.next) (after, c) = cc (g) in
-                record {
-                  room = leb-false _ _ room;
-                  left = eqb-false _ _ left;
-                  still = ap low (sym (ap (λ (q : Sender × ℕ). q.0) is)) ∙ least_push s.next p s.kept;
-                }
-          ]
-    ]
+use Rattle.dc_world.proofs.Leaving.{no_command, no_completion}
+use Rattle.dc_world.proofs.Room.{has_room}
 
 -- the PDU of a number, where one more was sent
 listed_push : (xs : List ℕ) (c num : ℕ) → listed (slice_get xs num) ++ (if length xs == num then c ∷ [] else []) ≡ listed (slice_get (xs ++ c ∷ []) num)
@@ -82,25 +52,10 @@ listed_push (x ∷ xs) c (suc num) = grind (arith, nat_tests, listed_push xs c n
 
 -- ---- links and directions
 
--- the PDU is no command
-no_command : (d : Dir) (f : Flight) → put_on mt_ctl (line.Send (leg d) f ∷ []) ≡ []
-no_command Dl f = refl
-no_command Ul f = refl
-
--- and answers none
-no_completion : (d : Dir) (f : Flight) → put_on tm_ctl (line.Send (leg d) f ∷ []) ≡ []
-no_completion Dl f = refl
-no_completion Ul f = refl
-
 -- it stands on the leg of its direction
 own_leg : (d : Dir) (f : Flight) → put_on (leg d) (line.Send (leg d) f ∷ []) ≡ f ∷ []
 own_leg Dl f = refl
 own_leg Ul f = refl
-
--- the leg of a direction carries it
-direction_leg : (d : Dir) → direction (leg d) ≡ d
-direction_leg Dl = refl
-direction_leg Ul = refl
 
 -- a leg is the same as itself
 same_leg : (d : Dir) → is_same_link (leg d) (leg d) ≡ true
@@ -112,16 +67,6 @@ other_leg : (d : Dir) → is_same_link (leg (other d)) (leg d) ≡ false
 other_leg Dl = refl
 other_leg Ul = refl
 
--- a direction is the same as itself
-same_dir : (d : Dir) → is_same_dir d d ≡ true
-same_dir Dl = refl
-same_dir Ul = refl
-
--- the two directions are two
-other_dir : (d : Dir) → is_same_dir d (other d) ≡ false
-other_dir Dl = refl
-other_dir Ul = refl
-
 -- a PDU of the direction of its leg is promised
 promised : (h : Header) (t : List Entry) (s : Nodes) (d : Dir) (f : Flight) → IsPduOf h t d f → PromiseOf h t s (leg d, f)
 promised h t s Dl f pdu = inl pdu
@@ -131,10 +76,6 @@ promised h t s Ul f pdu = inl pdu
 under_way_last : (b : Established) (c : ℕ) (fs : List Flight) (f : Flight) → IsUnderWay b c (f ∷ []) → IsUnderWay b c (fs ++ f ∷ [])
 under_way_last b c [] f under = under
 under_way_last b c (x ∷ fs) f under = inr (under_way_last b c fs f under)
-
--- a test that fails
-not_le : (m n : ℕ) → n < m → nat_le m n ≡ false
-not_le m n less = grind (arith, nat_tests)
 
 module _ (h : Header) (policies : ℕ) (t : List Entry) (w : WorldState) (sound : Sound h policies t w) where
   -- a bearer that can be submitted to is not the one whose command is open
@@ -192,11 +133,15 @@ module _ (h : Header) (policies : ℕ) (t : List Entry) (w : WorldState) (sound 
 
     -- no generation is drawn
     plain : IsPlain entry
-    plain = record { no_plan = λ g. refl; no_draw = refl; no_end = λ g. refl; no_set = λ k has. refl }
+    plain = record { undrawn = record { no_plan = λ g. refl; no_draw = refl }; no_end = λ g. refl; no_set = λ k has. refl }
 
-    -- each bearer keeps its receiving side
+    -- each place keeps its bearer
     keeps : Keeps w.nodes after
-    keeps = keeps_changed d w.nodes id e e' at refl refl
+    keeps = keeps_sender d w.nodes id e e' at refl
+
+    -- and its receiving side
+    rx_still : (b' : Established) (d' : Dir) → (half b' (receiver_table d' after)).rx ≡ (half b' (receiver_table d' w.nodes)).rx
+    rx_still b' d' = sender_put_rx d w.nodes id e e' at refl b' d'
 
     -- another established bearer of the identity is none
     the_bearer : (b' : Established) → Contains (established t) b' → b'.id ≡ id → b' ≡ b
@@ -249,7 +194,7 @@ module _ (h : Header) (policies : ℕ) (t : List Entry) (w : WorldState) (sound 
 
     -- and holds then
     half_after : half b (sender_table d after) ≡ e'
-    half_after = ap (half b) (sender_after d w.nodes (with_bearer (sender_table d w.nodes) id (Some e'))) ∙ half_here b (sender_table d w.nodes) id e e' at named
+    half_after = sender_put_here d w.nodes b id e e' at named
 
     -- the bearer was served
     was : IsServed t w.nodes w.links b d
@@ -288,11 +233,8 @@ module _ (h : Header) (policies : ℕ) (t : List Entry) (w : WorldState) (sound 
     served_here =
         let xs' : submitted b d t ++ submission b d t entry ≡ submitted b d t ++ payload ∷ [] = ap (λ xs. submitted b d t ++ xs) submission_here in
         let cs' : confirmed b d t ++ confirms b d t entry ≡ confirmed b d t = ap (λ cs. confirmed b d t ++ cs) (nothing_confirmed b d) ∙ append-nil (confirmed b d t) in
-        let rx : RxParts = (half b (receiver_table d w.nodes)).rx in
-        served_next t entry plain w.nodes after keeps w.links links' b d was (no_ups b d t entry refl)
-        (subst (λ (x : Entities). IsLane b.n b.first (submitted b d t ++ submission b d t entry) (confirmed b d t ++ confirms b d t entry) x.tx x.sent rx) (sym half_after)
-        (subst (λ xs. IsLane b.n b.first xs (confirmed b d t ++ confirms b d t entry) tx (e.sent ++ c ∷ []) rx) (sym xs')
-        (subst (λ cs. IsLane b.n b.first (submitted b d t ++ payload ∷ []) cs tx (e.sent ++ c ∷ []) rx) (sym cs') taken_lane.1)))
+        served_next t w.nodes w.links b d entry after links' was (no_ups b d t entry refl) (rx_still b d)
+        (lane_same b.n b.first _ _ _ _ _ _ _ _ _ _ xs' cs' (ap (λ (x : Entities). x.tx) half_after) (ap (λ (x : Entities). x.sent) half_after) refl taken_lane.1)
         (λ k from below. owed_here k from (subst (λ (x : Entities). k < x.tx.next) half_after below))
         (λ num.
         ap (λ xs. xs ++ flat_map (tag_of (leg d) b.id b.g num) (sends entry.lines)) (was.numbers num ∙ ap (λ (x : Entities). listed (slice_get x.sent num)) half_before)
@@ -302,16 +244,11 @@ module _ (h : Header) (policies : ℕ) (t : List Entry) (w : WorldState) (sound 
 
     -- so is every other
     served_all : (b' : Established) (d' : Dir) → Contains (established t) b' → IsServed (t ++ entry ∷ []) after links' b' d'
-    served_all b' d' at' =
-        elim (parted d id d' b'.id) [
-          | inl same ↦
-              subst (λ k. IsServed (t ++ entry ∷ []) after links' b' k) (sym same.0)
-              (subst (λ x. IsServed (t ++ entry ∷ []) after links' x d) (sym (the_bearer b' at' same.1)) served_here)
-          | inr apart ↦
-              served_still t entry plain w.nodes after keeps w.links links' b' d' (sound.served b' d' at') (no_ups b' d' t entry refl)
-              (submission_apart b' d' apart) (nothing_confirmed b' d') (λ num. tag_apart b' d' num apart)
-              (sender_apart d w.nodes id (Some e') b' d' apart) (flying b' d')
-        ]
+    served_all = each_bearer (established t) sound.tables.once b here d id named (λ x k. IsServed (t ++ entry ∷ []) after links' x k) served_here (λ b' d' at' apart.
+        let same : half b' (sender_table d' after) ≡ half b' (sender_table d' w.nodes) = sender_put_apart d w.nodes id e' b' d' apart in
+        served_still t w.nodes w.links b' d' entry after links' (sound.served b' d' at') (no_ups b' d' t entry refl) (rx_still b' d')
+        (submission_apart b' d' apart) (nothing_confirmed b' d') (λ num. tag_apart b' d' num apart)
+        (ap (λ (x : Entities). x.tx) same) (ap (λ (x : Entities). x.sent) same) (λ k way. inr (flying b' d' k way)))
 
     -- ---- the PDU
 
@@ -334,7 +271,7 @@ module _ (h : Header) (policies : ℕ) (t : List Entry) (w : WorldState) (sound 
           sdu = payload;
           submission = submission_then;
           key = master_key 0;
-          keyed = ap (key_in b.g b.id) (plans_same t entry plain) ∙ sound.tables.keyed b here;
+          keyed = ap (key_in b.g b.id) (plans_same t entry plain.undrawn) ∙ sound.tables.keyed b here;
           spelled = refl;
         }
 
@@ -342,7 +279,7 @@ module _ (h : Header) (policies : ℕ) (t : List Entry) (w : WorldState) (sound 
     protects_all : (b' : Established) (d' : Dir) → Contains (established (t ++ entry ∷ [])) b' → Protects h b' d' t entry
     protects_all b' d' at' = (
       λ is.
-          let same : b' ≡ b = the_bearer b' (there_before t entry plain b' at') (sym is.1 ∙ named) in
+          let same : b' ≡ b = the_bearer b' (there_before t entry plain.undrawn b' at') (sym is.1 ∙ named) in
           let dir : d' ≡ d = sym (sym (direction_leg d) ∙ is.3) in
           let pdu : List ℕ = data_pdu b.n (sn b.n c) (ciphered h b.id d c payload) in
           subst (λ k. ProtectsSubmission h (t ++ entry ∷ []) b' k b.g (Some c) pdu) (sym dir)
@@ -358,7 +295,7 @@ module _ (h : Header) (policies : ℕ) (t : List Entry) (w : WorldState) (sound 
         let place : length e.sent ≡ c - b.first = omega arith in
         record {
           bearer = b;
-          there = there_then t entry plain b here;
+          there = there_then t entry plain.undrawn b here;
           count = c;
           payload = payload;
           good = good;
@@ -370,15 +307,9 @@ module _ (h : Header) (policies : ℕ) (t : List Entry) (w : WorldState) (sound 
 
     -- Low stays
     low_still : (b' : Established) (d' : Dir) → Contains (established t) b' → low (half b' (sender_table d' after)).tx ≡ low (half b' (sender_table d' w.nodes)).tx
-    low_still b' d' at' =
-        elim (parted d id d' b'.id) [
-          | inl same ↦
-              let here' : low (half b (sender_table d after)).tx ≡ low (half b (sender_table d w.nodes)).tx =
-              ap (λ (x : Entities). low x.tx) half_after ∙ (has_room e.tx tx payload c ok).still ∙ sym (ap (λ (x : Entities). low x.tx) half_before) in
-              subst (λ k. low (half b' (sender_table k after)).tx ≡ low (half b' (sender_table k w.nodes)).tx) (sym same.0)
-              (subst (λ x. low (half x (sender_table d after)).tx ≡ low (half x (sender_table d w.nodes)).tx) (sym (the_bearer b' at' same.1)) here')
-          | inr apart ↦ ap (λ (x : Entities). low x.tx) (sender_apart d w.nodes id (Some e') b' d' apart)
-        ]
+    low_still = each_bearer (established t) sound.tables.once b here d id named (λ x k. low (half x (sender_table k after)).tx ≡ low (half x (sender_table k w.nodes)).tx)
+        (ap (λ (x : Entities). low x.tx) half_after ∙ (has_room e.tx tx payload c ok).still ∙ sym (ap (λ (x : Entities). low x.tx) half_before))
+        (λ b' d' at' apart. ap (λ (x : Entities). low x.tx) (sender_put_apart d w.nodes id e' b' d' apart))
 
     -- there was room, and a COUNT was left
     due : submit_answer d t (Some b) ≡ answer.Ok
@@ -389,7 +320,7 @@ module _ (h : Header) (policies : ℕ) (t : List Entry) (w : WorldState) (sound 
         let counted : e.tx.next ≡ b.first + length (submitted b d t) = lane.counted in
         let same : window e.tx.n ≡ window b.n = ap window lane.tx_length in
         let told_is : low e.tx ≡ told b d t = low_is b.n b.first (submitted b d t) (confirmed b d t) e.tx e.sent (half b (receiver_table d w.nodes)).rx lane in
-        cond-false _ _ _ (not_le (told b d t + window b.n) next (omega arith)) ∙ cond-false _ _ _ (ne_eqb next (2 ^ 32 - 1) (λ is. left (omega arith)))
+        cond-false _ _ _ (lt-leb (told b d t + window b.n) next (omega arith)) ∙ cond-false _ _ _ (ne_eqb next (2 ^ 32 - 1) (λ is. left (omega arith)))
 
     -- the PDU is sent for its submission
     licence : IsLicensed h t entry
@@ -417,7 +348,7 @@ module _ (h : Header) (policies : ℕ) (t : List Entry) (w : WorldState) (sound 
     -- under a generation that was drawn
     none_sent : NoneSent (t ++ entry ∷ [])
     none_sent l k g num later =
-        let before : generation t < g = subst (λ n. n < g) (generation_same t entry plain) later in
+        let before : generation t < g = subst (λ n. n < g) (generation_same t entry plain.undrawn) later in
         let drawn : b.g ≤ generation t = established_drawn t b here in
         let none : flat_map (tag_of l k g num) (sends entry.lines) ≡ [] =
         (let unlike : (b.g == g) ≡ false = ne_eqb b.g g (λ is. omega arith) in
@@ -441,17 +372,14 @@ module _ (h : Header) (policies : ℕ) (t : List Entry) (w : WorldState) (sound 
     happened = record {
       tables = tabled_same t entry plain w.nodes after keeps sound.tables;
       phase = phase;
-      served = λ b' d' at'. served_all b' d' (there_before t entry plain b' at');
-      grows = grows_same t entry plain w.nodes after keeps;
+      served = λ b' d' at'. served_all b' d' (there_before t entry plain.undrawn b' at');
+      grows = grows_same t entry w.nodes after (there_then t entry plain.undrawn) (λ b' d' at'. rx_still b' d');
       sent = (promised h (t ++ entry ∷ []) after d f pdu, tt);
       none_sent = none_sent;
       protects = protects_all;
-      carried = λ b' d' at'. subst (AllByRecursion (λ up. SomeEntry (TakesData b' d' up.0) (t ++ entry ∷ []))) (sym (no_ups b' d' t entry refl)) tt;
-      freed = λ b' d' at'.
-          let before = low (half b' (sender_table d' w.nodes)).tx in
-          no_frees b' d' t entry refl
-          ∙ subst (λ k. [] ≡ (if nat_lt before k then k ∷ [] else [])) (sym (low_still b' d' (there_before t entry plain b' at'))) (sym (no_move before));
-      fresh_before = λ b' at'. inl (there_before t entry plain b' at');
+      carried = λ b' d' at'. none_carried b' d' t entry (no_ups b' d' t entry refl);
+      freed = λ b' d' at'. no_frees b' d' t entry refl ∙ no_move _ _ (low_still b' d' (there_before t entry plain.undrawn b' at'));
+      fresh_before = λ b' at'. inl (there_before t entry plain.undrawn b' at');
       cause = sym (ap (submit_answer d t) there ∙ due);
       licence = licence;
     }
