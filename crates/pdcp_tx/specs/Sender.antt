@@ -1,5 +1,5 @@
 -- What the transmitting PDCP entity holds (TS 38.323, 5.2.1 and 7.1).
-use Rattle.std.specs.Prelude.{◌≡◌, ℕ, ◌+◌, ◌≤◌, ◌==◌, min, Bool, List, [], ◌∷◌, map, Option}
+use Rattle.std.specs.Prelude.{ℕ, ◌+◌, ◌≤◌, ◌==◌, min, Bool, List, [], ◌∷◌, map, Option}
 use Rattle.std.specs.List.{find, list_any}
 use Rattle.std.specs.Option.{option_map}
 use Rattle.dc_base.specs.declared.numbers.SnLen.{SnLen}
