@@ -1,7 +1,6 @@
 -- What the transmitting PDCP entity holds (TS 38.323, 5.2.1 and 7.1).
-use Rattle.std.specs.Prelude.{◌≡◌, ℕ, ◌+◌, ◌≤◌, ◌==◌, nat_lt, min, Bool, true, false, List, [], ◌∷◌, map, Option}
+use Rattle.std.specs.Prelude.{ℕ, ◌+◌, ◌≤◌, ◌==◌, min, Bool, List, [], ◌∷◌, map, Option}
 use Rattle.std.specs.List.{find, list_any}
-use Rattle.std.specs.List.Sorted.{IsPartitionPoint}
 use Rattle.std.specs.Option.{option_map}
 use Rattle.dc_base.specs.declared.numbers.SnLen.{SnLen}
 use Rattle.dc_base.specs.Count.{window}
@@ -43,17 +42,8 @@ abbrev pub Rises : ℕ → ℕ → List Entry → Type 0
 Rises from next [] = from ≤ next
 Rises from next (e ∷ es) = (from ≤ e.0) × Rises (e.0 + 1) next es
 
--- the COUNTs rise, below next
-pub record IsAscending (next : ℕ) (es : List Entry) : Type 0 where
-  pub from : ℕ
-  pub rises : Rises from next es
-
 -- what is kept ascends, lies below next, and no further below it than the window is long
 pub record InWindow (n : SnLen) (next : ℕ) (kept : List Entry) : Type 0 where
   pub from : ℕ
   pub near : next ≤ from + window n
   pub rises : Rises from next kept
-
--- the COUNTs before place i are below this one, and those from it on are not
-abbrev pub IsPlace : ℕ → List Entry → ℕ → Type 0
-IsPlace count es i = IsPartitionPoint (λ e. nat_lt e.0 count ≡ true) (λ e. nat_lt e.0 count ≡ false) es i
