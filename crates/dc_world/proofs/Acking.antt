@@ -1,9 +1,9 @@
 -- An ack is taken.
-use Rattle.std.proofs.Common.{ℕ, ◌≡◌, ◌+◌, ◌-◌, ◌<◌, ◌≤◌, ◌==◌, ◌++◌, List, [], ◌∷◌, Option, Some, None, Bool, length, slice_get, refl, sym, ap, ◌∙◌, subst, arith, inl, inr}
-use Rattle.std.specs.Prelude.{Contains, nat_lt, if◌then◌else◌, fold}
+use Rattle.std.proofs.Common.{ℕ, ◌≡◌, ◌+◌, ◌<◌, ◌≤◌, ◌==◌, ◌++◌, List, [], ◌∷◌, Option, Some, None, Bool, map, slice_get, refl, sym, ap, ◌∙◌, subst, arith, inl, inr}
+use Rattle.std.specs.Prelude.{Contains, nat_lt, if◌then◌else◌, ◌&&◌, count_by, fold}
 use Rattle.std.specs.List.{AllByRecursion, flat_map}
 use Rattle.std.proofs.lemmas.List.{append-nil}
-use Rattle.std.proofs.lemmas.Bool.{cases_Bool, eq-eqb, cond-true, lt-ltb}
+use Rattle.std.proofs.lemmas.Bool.{cases_Bool, eqb-true, eq-eqb, cond-true, cond_both}
 use Rattle.dc_base.specs.declared.nodes.Dir.{Dir}
 use Rattle.dc_base.specs.declared.nodes.Dir.TheVariants.{Ul, Dl}
 use Rattle.dc_base.specs.declared.nodes.LinkId.{LinkId}
@@ -18,15 +18,15 @@ use Rattle.pdcp_tx.specs.Sending.{confirmed as without}
 use Rattle.pdcp_rx.specs.Receiver.{Received}
 use Rattle.transcript.specs.Transcript.{Entry, sends}
 use Rattle.transcript.specs.Content.{mt_ctl, tm_ctl, mt_air, tm_air, given, on_link}
-use Rattle.transcript.specs.Bearers.{Established, established, ends_command, has_after, submitted, up_of, freed_of, frees, confirmed_by, confirms, confirmed, tag_of, tags_sent, ups}
-use Rattle.transcript.specs.Claims.{IsDataFlight, IsProtected, IsReason, step_answer, HasCause}
+use Rattle.transcript.specs.Bearers.{Confirmation, acked, OpenCommand, Established, established, is_generation_of, ends_command, has_after, submitted, up_of, freed_of, frees, confirmed_by, confirms, confirmed, tag_of, tags_sent, ups}
+use Rattle.transcript.specs.Claims.{IsDataFlight, IsProtected, IsReason, AscendsFrom, count_in, is_uncounted, step_answer, HasCause}
 use Rattle.dc_world.specs.Entities.{Entities, Table, bearer_in, with_bearer}
 use Rattle.dc_world.specs.Plane.{leg, other, air_taken, taken_for, flight_taken, confirmed_at, freed_lines}
 use Rattle.dc_world.specs.Control.{Nodes}
 use Rattle.dc_world.specs.Links.{Links, on, moved}
 use Rattle.dc_world.specs.Run.{WorldState}
 use Rattle.transcript.proofs.Establishing.{is_latest_once, is_generation_once}
-use Rattle.dc_world.proofs.Lane.{IsLane, lane_confirmed, received_below, sent_at}
+use Rattle.dc_world.proofs.Lane.{IsLane, lane_confirmed}
 use Rattle.dc_world.proofs.Tables.{with_receiver, at_the_master, Keeps, half_at, sender_put, sender_put_same, sender_put_here, sender_put_apart, sender_put_rx, keeps_all, keeps_sender}
 use Rattle.dc_world.proofs.Directions.{each_bearer, not_named, Apart, not_other}
 use Rattle.dc_world.proofs.Plain.{IsPlain, there_then, there_before, tabled_same, phase_same}
@@ -34,32 +34,32 @@ use Rattle.dc_world.proofs.Served.{lane_same, served_next, served_still}
 use Rattle.dc_world.proofs.Silent.{no_ups, no_frees, no_move, none_carried, none_sent_still, grows_same, IsSilent, plain_happened}
 use Rattle.dc_world.proofs.Contents.{step_given, step_due}
 use Rattle.dc_world.proofs.Leaving.{flying_after, control_down, control_up}
-use Rattle.dc_world.proofs.Sound.{or_fresh, half, sender_table, receiver_table, IsAckOf, IsUnderWay, PromiseOf, listed, IsServed, Happened, Sound}
+use Rattle.dc_world.proofs.Sound.{or_fresh, half, sender_table, receiver_table, IsGot, IsAckOf, IsUnderWay, PromiseOf, listed, IsServed, Happened, Sound}
 
 -- ---- lines and links
 
 -- a bearer of another identity, or in uplink, is not told of
-freed_apart : (b : Established) (d : Dir) (id x y : ℕ) → Apart Dl id d b.id → flat_map (freed_of b d) (freed_lines id x y) ≡ []
+freed_apart : (b : Established) (d : Dir) (id x y : ℕ) → Apart Dl id d b.id → flat_map (freed_of b d) (freed_lines id Dl x y) ≡ []
 freed_apart b d id x y apart = elim (cases_Bool (nat_lt x y)) [ inl less ↦ rw (less, not_named Dl id d b.id apart) refl | inr most ↦ rw most refl ]
 
 -- the bearer is, where Low rises
-freed_here : (b : Established) (x y : ℕ) → flat_map (freed_of b Dl) (freed_lines b.id x y) ≡ (if nat_lt x y then y ∷ [] else [])
+freed_here : (b : Established) (x y : ℕ) → flat_map (freed_of b Dl) (freed_lines b.id Dl x y) ≡ (if nat_lt x y then y ∷ [] else [])
 freed_here b x y = elim (cases_Bool (nat_lt x y)) [ inl less ↦ rw (less, eq-eqb b.id b.id refl) refl | inr most ↦ rw most refl ]
 
 -- such a line sends nothing
-freed_sends : (id x y : ℕ) → sends (freed_lines id x y) ≡ []
+freed_sends : (id x y : ℕ) → sends (freed_lines id Dl x y) ≡ []
 freed_sends id x y = elim (cases_Bool (nat_lt x y)) [ inl less ↦ rw less refl | inr most ↦ rw most refl ]
 
 -- it hands nothing up
-freed_ups : (b : Established) (d : Dir) (id x y : ℕ) → flat_map (up_of b d) (freed_lines id x y) ≡ []
+freed_ups : (b : Established) (d : Dir) (id x y : ℕ) → flat_map (up_of b d) (freed_lines id Dl x y) ≡ []
 freed_ups b d id x y = elim (cases_Bool (nat_lt x y)) [ inl less ↦ rw less refl | inr most ↦ rw most refl ]
 
 -- it ends no command
-freed_ends : (g : Option ℕ) (id x y : ℕ) → fold ends_command g (freed_lines id x y) ≡ g
+freed_ends : (g : Option OpenCommand) (id x y : ℕ) → fold ends_command g (freed_lines id Dl x y) ≡ g
 freed_ends g id x y = elim (cases_Bool (nat_lt x y)) [ inl less ↦ rw less refl | inr most ↦ rw most refl ]
 
 -- it sets no bearer up
-freed_sets : (k : ℕ) (has : Bool) (id x y : ℕ) → fold (has_after k) has (freed_lines id x y) ≡ has
+freed_sets : (k : ℕ) (has : Bool) (id x y : ℕ) → fold (has_after k) has (freed_lines id Dl x y) ≡ has
 freed_sets k has id x y = elim (cases_Bool (nat_lt x y)) [ inl less ↦ rw less refl | inr most ↦ rw most refl ]
 
 -- where Low is, if that is further than before
@@ -90,21 +90,27 @@ module _ (h : Header) (policies : ℕ) (t : List Entry) (w : WorldState) (sound 
     ack_cause : HasCause policies t entry
     ack_cause = sym (step_due t w.links sound.contents (leg (other d)) i (flight.Ack id g num) at ∙ ack_due d t i id g num)
 
-  -- ---- an ack of uplink, at the terminal
+  -- ---- an ack that confirms nothing
 
-  module _ (i id g num : ℕ) (s' : Nodes) (at : slice_get (on w.links mt_air) i ≡ Some (flight.Ack id g num)) (keeps : Keeps w.nodes s')
-      (still : (b : Established) (d : Dir) → half b (sender_table d s') ≡ half b (sender_table d w.nodes)) where
-    -- the terminal does nothing
+  module _ (d : Dir) (i id g num : ℕ) (s' : Nodes) (at : slice_get (on w.links (leg (other d))) i ≡ Some (flight.Ack id g num)) (keeps : Keeps w.nodes s')
+      (still : (b : Established) (k : Dir) → half b (sender_table k s') ≡ half b (sender_table k w.nodes))
+      (none : (b : Established) → confirmed_by b Dl t (Some (leg (other d), flight.Ack id g num)) ≡ []) where
+    -- the node does nothing
     abbrev unheeded : Entry
-    unheeded = record { event = Step mt_air i; answer = answer.Ok; lines = [] }
+    unheeded = record { event = Step (leg (other d)) i; answer = answer.Ok; lines = [] }
+
+    -- in uplink none does
+    none_confirmed_by : (b : Established) (k : Dir) → confirmed_by b k t (Some (leg (other d), flight.Ack id g num)) ≡ []
+    none_confirmed_by b Ul = refl
+    none_confirmed_by b Dl = none b
 
     -- it carries no data
     unheeded_silent : IsSilent t unheeded
     unheeded_silent = record {
-      submits = λ b d. refl;
-      hands = λ b d. no_ups b d t unheeded refl;
-      moves = λ b d. no_frees b d t unheeded refl;
-      confirms = λ b d. elim d as (λ d. confirms b d t unheeded ≡ []) [ Ul ↦ refl | Dl ↦ ap (confirmed_by b t) (given_is Ul i id g num [] at) ];
+      submits = λ b k. refl;
+      hands = λ b k. no_ups b k t unheeded refl;
+      moves = λ b k. no_frees b k t unheeded refl;
+      confirms = λ b k. ap (confirmed_by b k t) (given_is d i id g num [] at) ∙ none_confirmed_by b k;
       tags = λ l id g num. refl;
     }
 
@@ -112,9 +118,11 @@ module _ (h : Header) (policies : ℕ) (t : List Entry) (w : WorldState) (sound 
     unheeded_happened : Happened h policies t w unheeded s'
     unheeded_happened =
         plain_happened h policies t w sound unheeded s' unheeded_silent refl still
-        (record { undrawn = record { no_plan = λ g. refl; no_draw = refl }; no_end = λ g. refl; no_set = λ k has. refl }) keeps
-        (control_down w.links sound.long Dl i (flight.Ack id g num) at [] refl) (control_up w.links sound.long Dl i (flight.Ack id g num) at [] refl)
-        (λ b d there c way. inr (flying Ul i id g num [] at b d c way)) (ack_cause Ul i id g num [] at)
+        (record { undrawn = record { no_plan = λ g. refl; no_draw = refl }; no_open = λ g o. refl; no_end = λ g. refl; no_set = λ k has. refl }) keeps
+        (control_down w.links sound.long (other d) i (flight.Ack id g num) at [] refl) (control_up w.links sound.long (other d) i (flight.Ack id g num) at [] refl)
+        (λ b k there c way. inr (flying d i id g num [] at b k c way)) (ack_cause d i id g num [] at)
+
+  -- ---- an ack of uplink, at the terminal
 
   -- what the terminal made of a flight happened
   abbrev AtTerminal : ℕ → Table × List Line → Type 0
@@ -123,25 +131,47 @@ module _ (h : Header) (policies : ℕ) (t : List Entry) (w : WorldState) (sound 
   -- the terminal takes an ack
   terminal_takes : (i id g num : ℕ) → slice_get (on w.links mt_air) i ≡ Some (flight.Ack id g num) → (found : Option Entities) → bearer_in w.nodes.terminal id ≡ found
       → AtTerminal i (taken_for h Dl w.nodes.terminal id (flight.Ack id g num) found)
-  terminal_takes i id g num at None is = unheeded_happened i id g num w.nodes at (keeps_all w.nodes) (λ b d. refl)
+  terminal_takes i id g num at None is = unheeded_happened Ul i id g num w.nodes at (keeps_all w.nodes) (λ b d. refl) (λ b. refl)
   terminal_takes i id g num at (Some e) is =
       let nothing : flight_taken h Dl e (flight.Ack id g num) ≡ (e, []) = elim (cases_Bool (g == e.bearer.g)) [ inl same ↦ rw same refl | inr apart ↦ rw apart refl ] in
       subst (λ (q : Entities × List Line). AtTerminal i (with_bearer w.nodes.terminal id (Some q.0), q.1)) (sym nothing)
-      (unheeded_happened i id g num (sender_put Ul w.nodes id e) at (keeps_sender Ul w.nodes id e e is refl)
-      (λ b d. sender_put_same (or_fresh b) Ul w.nodes id e e is refl d b.id))
+      (unheeded_happened Ul i id g num (sender_put Ul w.nodes id e) at (keeps_sender Ul w.nodes id e e is refl)
+      (λ b d. sender_put_same (or_fresh b) Ul w.nodes id e e is refl d b.id) (λ b. refl))
 
   -- ---- an ack of downlink, at the master
 
-  module _ (i : ℕ) (e : Entities) (count : ℕ) (here : Contains (established t) e.bearer) (at : bearer_in w.nodes.master e.bearer.id ≡ Some e)
-      (counted : e.bearer.first ≤ count) (got : Received (half e.bearer w.nodes.terminal).rx count)
-      (placed : slice_get (on w.links tm_air) i ≡ Some (flight.Ack e.bearer.id e.bearer.g (count - e.bearer.first))) where
+  -- what the master made of a flight happened
+  abbrev AtMaster : ℕ → Table × List Line → Type 0
+  AtMaster i q = Happened h policies t w (record { event = Step tm_air i; answer = answer.Ok; lines = q.1 }) (record w.nodes { master = q.0 })
+
+  -- the master takes an ack of a PDU that it sent, of its own bearer
+  master_takes : (e : Entities) (num : ℕ) (o : Option ℕ) → bearer_in w.nodes.master e.bearer.id ≡ Some e → slice_get e.sent num ≡ Some o
+      → let done = confirmed_at e (Some o) in
+      air_taken h Ul w.nodes.master (flight.Ack e.bearer.id e.bearer.g num) ≡ (with_bearer w.nodes.master e.bearer.id (Some done.0), done.1)
+  master_takes e num o at sent_there =
+      let b = e.bearer in
+      let for_it : flight_taken h Ul e (flight.Ack b.id b.g num) ≡ confirmed_at e (Some o) = cond-true _ _ _ (eq-eqb b.g b.g refl) ∙ ap (confirmed_at e) sent_there in
+      ap (taken_for h Ul w.nodes.master b.id (flight.Ack b.id b.g num)) at
+      ∙ ap (λ (q : Entities × List Line). (with_bearer w.nodes.master b.id (Some q.0), q.1)) for_it
+
+  -- the COUNT of the PDU is that of its place
+  tags_of : (e : Entities) (num : ℕ) (o : Option ℕ) → Contains (established t) e.bearer → bearer_in w.nodes.master e.bearer.id ≡ Some e → slice_get e.sent num ≡ Some o
+      → tags_sent mt_air e.bearer.id e.bearer.g num t ≡ listed (Some o)
+  tags_of e num o here at sent_there =
+      (sound.served e.bearer Dl here).numbers num ∙ ap (λ (x : Entities). listed (slice_get x.sent num)) (half_at e.bearer w.nodes.master e.bearer.id e at refl) ∙ ap listed sent_there
+
+  -- an ack of a control PDU confirms nothing
+  none_acked : (id g num : ℕ) → tags_sent mt_air id g num t ≡ [] → (b : Established) → confirmed_by b Dl t (Some (tm_air, flight.Ack id g num)) ≡ []
+  none_acked id g num none b =
+      ap (λ (cs : List ℕ). if (id == b.id) && is_generation_of b g t then map acked cs else []) none
+      ∙ cond_both ((id == b.id) && is_generation_of b g t) [] [] (λ (cs : List Confirmation). cs ≡ []) (λ is. refl) (λ is. refl)
+
+  module _ (i : ℕ) (e : Entities) (num count : ℕ) (here : Contains (established t) e.bearer) (at : bearer_in w.nodes.master e.bearer.id ≡ Some e)
+      (sent_there : slice_get e.sent num ≡ Some (Some count)) (got : Received (half e.bearer w.nodes.terminal).rx count)
+      (placed : slice_get (on w.links tm_air) i ≡ Some (flight.Ack e.bearer.id e.bearer.g num)) where
     -- the bearer
     abbrev b : Established
     b = e.bearer
-
-    -- the number of the PDU
-    abbrev num : ℕ
-    num = count - b.first
 
     -- what the master holds of the bearer then
     abbrev e' : Entities
@@ -153,7 +183,7 @@ module _ (h : Header) (policies : ℕ) (t : List Entry) (w : WorldState) (sound 
 
     -- it tells where Low is, if it rises
     abbrev lines : List Line
-    lines = freed_lines b.id (low e.tx) (low e'.tx)
+    lines = freed_lines b.id Dl (low e.tx) (low e'.tx)
 
     -- what happens
     abbrev heeded : Entry
@@ -163,6 +193,7 @@ module _ (h : Header) (policies : ℕ) (t : List Entry) (w : WorldState) (sound 
     plain : IsPlain heeded
     plain = record {
       undrawn = record { no_plan = λ g. refl; no_draw = refl };
+      no_open = λ g o. refl;
       no_end = λ g. freed_ends g b.id (low e.tx) (low e'.tx);
       no_set = λ k has. freed_sets k has b.id (low e.tx) (low e'.tx);
     }
@@ -215,35 +246,21 @@ module _ (h : Header) (policies : ℕ) (t : List Entry) (w : WorldState) (sound 
     lane : IsLane b.n b.first (submitted b Dl t) (confirmed b Dl t) e.tx e.sent (half b w.nodes.terminal).rx
     lane = subst (λ (x : Entities). IsLane b.n b.first (submitted b Dl t) (confirmed b Dl t) x.tx x.sent (half b w.nodes.terminal).rx) half_before was.lane
 
-    -- the PDU of that number had the COUNT
-    sent_there : slice_get e.sent num ≡ Some count
-    sent_there =
-        let below = received_below b.n b.first (submitted b Dl t) (confirmed b Dl t) e.tx e.sent (half b w.nodes.terminal).rx lane count got in
-        let next : e.tx.next ≡ b.first + length (submitted b Dl t) = lane.counted in
-        let within : num < length (submitted b Dl t) = omega arith in
-        let is : b.first + num ≡ count = omega arith in
-        sent_at b.n b.first (submitted b Dl t) (confirmed b Dl t) e.tx e.sent (half b w.nodes.terminal).rx lane num
-        ∙ cond-true _ _ _ (lt-ltb num (length (submitted b Dl t)) within) ∙ ap Some is
-
-    -- what the master makes of the ack
-    taken_is : air_taken h Ul w.nodes.master (flight.Ack b.id b.g num) ≡ (with_bearer w.nodes.master b.id (Some e'), lines)
-    taken_is =
-        let for_it : flight_taken h Ul e (flight.Ack b.id b.g num) ≡ (e', lines) = cond-true _ _ _ (eq-eqb b.g b.g refl) ∙ ap (confirmed_at e) sent_there in
-        ap (taken_for h Ul w.nodes.master b.id (flight.Ack b.id b.g num)) at
-        ∙ ap (λ (q : Entities × List Line). (with_bearer w.nodes.master b.id (Some q.0), q.1)) for_it
-
     -- the COUNT is confirmed
-    confirms_here : confirms b Dl t heeded ≡ count ∷ []
+    confirms_here : confirms b Dl t heeded ≡ acked count ∷ []
     confirms_here =
-        ap (confirmed_by b t) given_here
-        ∙ rw (eq-eqb b.id b.id refl, is_generation_once t b sound.tables.once here)
-        (was.numbers num ∙ ap (λ (x : Entities). listed (slice_get x.sent num)) half_before ∙ ap listed sent_there)
+        ap (confirmed_by b Dl t) given_here
+        ∙ rw (eq-eqb b.id b.id refl, is_generation_once t b sound.tables.once here) (ap (map acked) (tags_of e num (Some count) here at sent_there))
 
     -- and for no other bearer or direction
     confirms_apart : (b' : Established) (d' : Dir) → Apart Dl b.id d' b'.id → confirms b' d' t heeded ≡ []
     confirms_apart b' Dl (inl turned) = absurd (not_other Dl turned)
-    confirms_apart b' Dl (inr apart) = ap (confirmed_by b' t) given_here ∙ rw apart refl
-    confirms_apart b' Ul apart = refl
+    confirms_apart b' Dl (inr apart) = ap (confirmed_by b' Dl t) given_here ∙ rw apart refl
+    confirms_apart b' Ul apart = ap (confirmed_by b' Ul t) given_here
+
+    -- the PDUs on each leg have their numbers
+    sent_still : (b' : Established) (d' : Dir) → (half b' (sender_table d' after)).sent ≡ (half b' (sender_table d' w.nodes)).sent
+    sent_still b' d' = sender_put_same (λ o. (or_fresh b' o).sent) Dl w.nodes b.id e e' at refl d' b'.id
 
     -- the bearer is served
     served_here : IsServed (t ++ heeded ∷ []) after left_links b Dl
@@ -251,7 +268,8 @@ module _ (h : Header) (policies : ℕ) (t : List Entry) (w : WorldState) (sound 
         served_next t w.nodes w.links b Dl heeded after left_links was (nothing_up b Dl) (rx_still b Dl)
         (lane_same b.n b.first _ _ _ _ _ _ _ _ _ _ (append-nil (submitted b Dl t)) (ap (λ cs. confirmed b Dl t ++ cs) confirms_here)
         (ap (λ (x : Entities). x.tx) half_after) (ap (λ (x : Entities). x.sent) half_after) refl
-        (lane_confirmed b.n b.first (submitted b Dl t) (confirmed b Dl t) e.tx e.sent (half b w.nodes.terminal).rx lane count counted got))
+        (lane_confirmed b.n b.first (submitted b Dl t) (confirmed b Dl t) e.tx e.sent (half b w.nodes.terminal).rx lane (acked count)
+        (λ c from is. subst (Received (half b w.nodes.terminal).rx) (sym (eqb-true c count is)) got)))
         (λ k from below.
         let before : k < e.tx.next = subst (λ (x : Entities). k < x.tx.next) half_after below in
         elim (was.owed k from (subst (λ (x : Entities). k < x.tx.next) (sym half_before) before)) [
@@ -286,9 +304,10 @@ module _ (h : Header) (policies : ℕ) (t : List Entry) (w : WorldState) (sound 
           tables = tabled_same t heeded plain w.nodes after keeps sound.tables;
           phase = phase_same t heeded plain w.nodes after keeps h w.links left_links
               (control_down w.links sound.long Ul i _ placed lines (ap (flat_map (on_link mt_ctl)) silent)) (control_up w.links sound.long Ul i _ placed lines (ap (flat_map (on_link tm_ctl)) silent))
-              (λ b' there busy absent d'. refl) sound.phase;
+              (λ b' there busy absent d'. refl) (λ b' there busy. sent_still b' Dl) sound.phase;
           served = λ b' d' there. served_all b' d' (before b' there);
-          grows = grows_same t heeded w.nodes after (there_then t heeded plain.undrawn) (λ b' d' there. rx_still b' d');
+          grows = grows_same t heeded w.nodes after (there_then t heeded plain.undrawn) (λ b' d' there. rx_still b' d')
+              (λ b' d' there k o is. subst (λ xs. slice_get xs k ≡ Some o) (sym (sent_still b' d')) is);
           sent = subst (AllByRecursion (PromiseOf h (t ++ heeded ∷ []) after)) (sym silent) tt;
           none_sent = none_sent_still t heeded no_tags sound.none_sent;
           protects = λ b' d' there. subst (AllByRecursion (λ s. IsDataFlight (t ++ heeded ∷ []) b' d' s → IsProtected h (t ++ heeded ∷ []) b' d' s)) (sym silent) tt;
@@ -298,9 +317,22 @@ module _ (h : Header) (policies : ℕ) (t : List Entry) (w : WorldState) (sound 
           cause = ack_cause Dl i b.id b.g num lines placed;
           licence = record {
             reasons = subst (AllByRecursion (IsReason h t heeded)) (sym silent) tt;
-            one = subst (λ (ss : List (LinkId × Flight)). length ss ≤ 1) (sym silent) (omega arith);
+            ascends = subst (λ (ss : List (LinkId × Flight)). AscendsFrom 0 (flat_map count_in ss)) (sym silent) tt;
+            one = subst (λ (ss : List (LinkId × Flight)). count_by is_uncounted ss ≤ 1) (sym silent) (omega arith);
           };
         }
+
+  -- the master takes an ack of what it sent
+  heard : (i : ℕ) (e : Entities) (num : ℕ) (o : Option ℕ) → Contains (established t) e.bearer → bearer_in w.nodes.master e.bearer.id ≡ Some e
+      → slice_get e.sent num ≡ Some o → IsGot e.bearer (half e.bearer w.nodes.terminal).rx o → slice_get (on w.links tm_air) i ≡ Some (flight.Ack e.bearer.id e.bearer.g num)
+      → AtMaster i (air_taken h Ul w.nodes.master (flight.Ack e.bearer.id e.bearer.g num))
+  heard i e num None here at sent_there got placed =
+      let b = e.bearer in
+      subst (AtMaster i) (sym (master_takes e num None at sent_there))
+      (unheeded_happened Dl i b.id b.g num (sender_put Dl w.nodes b.id e) placed (keeps_sender Dl w.nodes b.id e e at refl)
+      (λ x k. sender_put_same (or_fresh x) Dl w.nodes b.id e e at refl k x.id) (none_acked b.id b.g num (tags_of e num None here at sent_there)))
+  heard i e num (Some count) here at sent_there got placed =
+      subst (AtMaster i) (sym (master_takes e num (Some count) at sent_there)) (heeded_happened i e num count here at sent_there got.1 placed)
 
   -- an ack of direction d's PDUs is taken from the other leg
   pub ack_happened : (d : Dir) (i : ℕ) (f : Flight) → slice_get (on w.links (leg (other d))) i ≡ Some f → IsAckOf t w.nodes d f
@@ -311,15 +343,11 @@ module _ (h : Header) (policies : ℕ) (t : List Entry) (w : WorldState) (sound 
       let e = found.0 in let is = found.2 in
       let here : Contains (established t) e.bearer = subst (λ x. Contains (established t) x) (sym is) ack.there in
       let at_id : bearer_in w.nodes.master e.bearer.id ≡ Some e = ap (λ (x : Established). bearer_in w.nodes.master x.id) is ∙ found.1 in
-      let counted : e.bearer.first ≤ ack.count = subst (λ (x : Established). x.first ≤ ack.count) (sym is) ack.counted in
-      let got : Received (half e.bearer w.nodes.terminal).rx ack.count = subst (λ x. Received (half x w.nodes.terminal).rx ack.count) (sym is) ack.got in
-      let f_is : f ≡ flight.Ack e.bearer.id e.bearer.g (ack.count - e.bearer.first) = ack.is ∙ ap (λ (x : Established). flight.Ack x.id x.g (ack.count - x.first)) (sym is) in
-      let placed : slice_get (on w.links tm_air) i ≡ Some (flight.Ack e.bearer.id e.bearer.g (ack.count - e.bearer.first)) = at ∙ ap Some f_is in
-      let Q : Table × List Line → Type 0 = λ q. Happened h policies t w (record { event = Step tm_air i; answer = answer.Ok; lines = q.1 }) (record w.nodes { master = q.0 }) in
-      subst (λ x. Q (air_taken h Ul w.nodes.master x)) (sym f_is)
-      (subst Q (sym (taken_is i e ack.count here at_id counted got placed)) (heeded_happened i e ack.count here at_id counted got placed))
+      let sent_there : slice_get e.sent ack.num ≡ Some ack.sent = subst (λ (x : Option Entities). slice_get (or_fresh ack.bearer x).sent ack.num ≡ Some ack.sent) found.1 ack.numbered in
+      let got : IsGot e.bearer (half e.bearer w.nodes.terminal).rx ack.sent = subst (λ x. IsGot x (half x w.nodes.terminal).rx ack.sent) (sym is) ack.got in
+      let f_is : f ≡ flight.Ack e.bearer.id e.bearer.g ack.num = ack.is ∙ ap (λ (x : Established). flight.Ack x.id x.g ack.num) (sym is) in
+      subst (λ x. AtMaster i (air_taken h Ul w.nodes.master x)) (sym f_is) (heard i e ack.num ack.sent here at_id sent_there got (at ∙ ap Some f_is))
   ack_happened Ul i f at ack =
       let b = ack.bearer in
-      let num = ack.count - b.first in
       subst (λ x. AtTerminal i (air_taken h Dl w.nodes.terminal x)) (sym ack.is)
-      (terminal_takes i b.id b.g num (at ∙ ap Some ack.is) (bearer_in w.nodes.terminal b.id) refl)
+      (terminal_takes i b.id b.g ack.num (at ∙ ap Some ack.is) (bearer_in w.nodes.terminal b.id) refl)

@@ -1,9 +1,8 @@
 -- A payload is submitted and taken.
-use Rattle.std.proofs.Common.{ℕ, zero, suc, ◌≡◌, ◌+◌, ◌-◌, ◌^◌, ◌<◌, ◌≤◌, ◌⊎◌, ◌==◌, ◌++◌, List, [], ◌∷◌, Some, None, true, false, length, slice_get, refl, sym, ap, ◌∙◌, subst, arith, inl, inr}
+use Rattle.std.proofs.Common.{ℕ, zero, suc, ◌≡◌, ◌+◌, ◌-◌, ◌^◌, ◌<◌, ◌≤◌, ◌⊎◌, ◌==◌, ◌++◌, List, [], ◌∷◌, Option, Some, None, true, false, length, slice_get, refl, sym, ap, ◌∙◌, subst, arith, inl, inr}
 use Rattle.std.specs.Prelude.{Contains, Ok, if◌then◌else◌}
 use Rattle.std.specs.List.{flat_map}
 use Rattle.std.proofs.lemmas.List.{append-nil, length_push}
-use Rattle.std.proofs.lemmas.List.FromFn.{length-range_with_len}
 use Rattle.std.proofs.lemmas.Option.{none-some}
 use Rattle.std.proofs.lemmas.Bool.{lt-leb, cases_Bool, cases_lt, eqb-true, eq-eqb, ne_eqb, cond-false, cond-true}
 use Rattle.std.proofs.lemmas.Bool.Decides.{nat_tests}
@@ -22,7 +21,7 @@ use Rattle.pdcp_tx.specs.Sending.{taken}
 use Rattle.pdcp_rx.specs.Receiver.{Received}
 use Rattle.transcript.specs.Transcript.{Entry, sends}
 use Rattle.transcript.specs.Content.{mt_ctl, tm_ctl, put_on, is_same_link}
-use Rattle.transcript.specs.Bearers.{Established, established, latest, generation, is_same_dir, submission, submitted, confirms, confirmed, tag_of, told, open_command, at_submitter, unless_opening, master_key, key_in}
+use Rattle.transcript.specs.Bearers.{Established, established, latest, generation, is_same_dir, change, submission, submitted, confirms, confirmed, tag_of, told, open_command, at_submitter, unless_opening, master_key, key_in}
 use Rattle.transcript.specs.Claims.{Protects, ProtectsSubmission, IsLicensed, submit_answer}
 use Rattle.dc_world.specs.Entities.{Entities, bearer_in, with_bearer}
 use Rattle.dc_world.specs.Plane.{leg, other, ciphered, data_flight}
@@ -30,7 +29,7 @@ use Rattle.dc_world.specs.Control.{Nodes}
 use Rattle.dc_world.specs.Links.{Links, on, moved}
 use Rattle.dc_world.specs.Run.{WorldState}
 use Rattle.transcript.proofs.Establishing.{submitted-next, tags_sent-next, same_bearer, is_latest_once, is_generation_once, established_drawn}
-use Rattle.dc_world.proofs.Lists.{slice_get_last}
+use Rattle.dc_world.proofs.Lists.{slice_get_left, slice_get_last}
 use Rattle.dc_world.proofs.Lane.{IsLane, low_is, lane_taken}
 use Rattle.dc_world.proofs.Taking.{is_data_flight}
 use Rattle.dc_world.proofs.Tables.{with_sender, is_established, Keeps, half_at, sender_put_here, sender_put_apart, sender_put_rx, keeps_sender}
@@ -39,15 +38,15 @@ use Rattle.dc_world.proofs.Directions.{each_bearer, Apart, same_dir, other_dir, 
 use Rattle.dc_world.proofs.Plain.{IsPlain, plans_same, generation_same, there_then, there_before, tabled_same, phase_same}
 use Rattle.dc_world.proofs.Served.{lane_same, under_way_left, served_next, served_still}
 use Rattle.dc_world.proofs.Silent.{no_ups, no_frees, no_move, none_carried, grows_same}
-use Rattle.dc_world.proofs.Sound.{half, sender_table, receiver_table, IsPduOf, IsUnderWay, PromiseOf, Phase, listed, IsServed, NoneSent, Happened, Sound}
+use Rattle.dc_world.proofs.Sound.{half, sender_table, receiver_table, IsNumberOf, IsPduOf, a_pdu, IsUnderWay, PromiseOf, Phase, listed, IsServed, NoneSent, Happened, Sound}
 use Rattle.dc_world.proofs.Leaving.{no_command, no_completion}
 use Rattle.dc_world.proofs.Room.{has_room}
 
 -- the PDU of a number, where one more was sent
-listed_push : (xs : List ℕ) (c num : ℕ) → listed (slice_get xs num) ++ (if length xs == num then c ∷ [] else []) ≡ listed (slice_get (xs ++ c ∷ []) num)
+listed_push : (xs : List (Option ℕ)) (c num : ℕ) → listed (slice_get xs num) ++ (if length xs == num then c ∷ [] else []) ≡ listed (slice_get (xs ++ Some c ∷ []) num)
 listed_push [] c zero = refl
 listed_push [] c (suc num) = grind (arith, nat_tests)
-listed_push (x ∷ xs) c zero = grind (arith, nat_tests)
+listed_push (x ∷ xs) c zero = grind (arith, nat_tests, append-nil (listed (Some x)))
 listed_push (x ∷ xs) c (suc num) = grind (arith, nat_tests, listed_push xs c num)
 
 -- ---- links and directions
@@ -68,9 +67,9 @@ other_leg Dl = refl
 other_leg Ul = refl
 
 -- a PDU of the direction of its leg is promised
-promised : (h : Header) (t : List Entry) (s : Nodes) (d : Dir) (f : Flight) → IsPduOf h t d f → PromiseOf h t s (leg d, f)
-promised h t s Dl f pdu = inl pdu
-promised h t s Ul f pdu = inl pdu
+promised : (h : Header) (t : List Entry) (s : Nodes) (d : Dir) (f : Flight) → IsPduOf h t s d f → PromiseOf h t s (leg d, f)
+promised h t s Dl f pdu = a_pdu pdu
+promised h t s Ul f pdu = a_pdu pdu
 
 -- the new flight stands at the end of its leg
 under_way_last : (b : Established) (c : ℕ) (fs : List Flight) (f : Flight) → IsUnderWay b c (f ∷ []) → IsUnderWay b c (fs ++ f ∷ [])
@@ -78,24 +77,35 @@ under_way_last b c [] f under = under
 under_way_last b c (x ∷ fs) f under = inr (under_way_last b c fs f under)
 
 module _ (h : Header) (policies : ℕ) (t : List Entry) (w : WorldState) (sound : Sound h policies t w) where
-  -- a bearer that can be submitted to is not the one whose command is open
-  not_opening : (d : Dir) (id : ℕ) (e : Entities) → bearer_in (sender_table d w.nodes) id ≡ Some e → at_submitter d id t ≡ Some e.bearer
-      → (b : Established) → Contains (established t) b → w.nodes.busy ≡ Some b.g → bearer_in w.nodes.terminal b.id ≡ None → (id == b.id) ≡ false
-  not_opening Dl id e at there b at' busy absent =
+  -- a bearer that the master can submit to is not the one whose command is open
+  not_changed : (id : ℕ) (x : Established) → at_submitter Dl id t ≡ Some x
+      → (b : Established) → Contains (established t) b → w.nodes.busy ≡ Some (change b.g) → (id == b.id) ≡ false
+  not_changed id x there b at' busy =
       elim (cases_Bool (id == b.id)) [
         | inl same ↦
-            let opened : open_command t ≡ Some b.g = sym sound.tables.busy_is ∙ busy in
+            let opened : open_command t ≡ Some (change b.g) = sym sound.tables.busy_is ∙ busy in
             let found : latest id (established t) ≡ Some b = ap (λ k. latest k (established t)) (eqb-true id b.id same) ∙ sound.tables.once b at' in
             let none : unless_opening (open_command t) (latest id (established t)) ≡ None =
-            ap (λ o. unless_opening o (latest id (established t))) opened ∙ ap (unless_opening (Some b.g)) found ∙ cond-true _ _ _ (eq-eqb b.g b.g refl) in
-            absurd (none-some e.bearer (sym none ∙ there))
+            ap (λ o. unless_opening o (latest id (established t))) opened ∙ ap (unless_opening (Some (change b.g))) found ∙ cond-true _ _ _ (eq-eqb b.g b.g refl) in
+            absurd (none-some x (sym none ∙ there))
         | inr apart ↦ apart
       ]
+
+  -- nor is it at the terminal, which lacks that one
+  not_opening : (d : Dir) (id : ℕ) (e : Entities) → bearer_in (sender_table d w.nodes) id ≡ Some e → at_submitter d id t ≡ Some e.bearer
+      → (b : Established) → Contains (established t) b → w.nodes.busy ≡ Some (change b.g) → bearer_in w.nodes.terminal b.id ≡ None → (id == b.id) ≡ false
+  not_opening Dl id e at there b at' busy absent = not_changed id e.bearer there b at' busy
   not_opening Ul id e at there b at' busy absent =
       elim (cases_Bool (id == b.id)) [
         | inl same ↦ absurd (none-some e (sym absent ∙ ap (bearer_in w.nodes.terminal) (sym (eqb-true id b.id same)) ∙ at))
         | inr apart ↦ apart
       ]
+
+  -- so it is not what the master sends of that one
+  apart_at_master : (d : Dir) (id : ℕ) (x : Established) → at_submitter d id t ≡ Some x
+      → (b : Established) → Contains (established t) b → w.nodes.busy ≡ Some (change b.g) → Apart d id Dl b.id
+  apart_at_master Dl id x there b at' busy = inr (not_changed id x there b at' busy)
+  apart_at_master Ul id x there b at' busy = inl refl
 
   module _ (id : ℕ) (d : Dir) (payload : List ℕ) (e : Entities) (tx : Sender) (c : ℕ) (good : IsPayload payload)
       (at : bearer_in (sender_table d w.nodes) id ≡ Some e) (there : at_submitter d id t ≡ Some e.bearer) (ok : taken e.tx payload ≡ Ok (tx, c)) where
@@ -113,7 +123,7 @@ module _ (h : Header) (policies : ℕ) (t : List Entry) (w : WorldState) (sound 
 
     -- what the node holds of the bearer then
     abbrev e' : Entities
-    e' = record e { tx = tx; sent = e.sent ++ c ∷ [] }
+    e' = record e { tx = tx; sent = e.sent ++ Some c ∷ [] }
 
     -- what the nodes hold then
     abbrev after : Nodes
@@ -133,7 +143,7 @@ module _ (h : Header) (policies : ℕ) (t : List Entry) (w : WorldState) (sound 
 
     -- no generation is drawn
     plain : IsPlain entry
-    plain = record { undrawn = record { no_plan = λ g. refl; no_draw = refl }; no_end = λ g. refl; no_set = λ k has. refl }
+    plain = record { undrawn = record { no_plan = λ g. refl; no_draw = refl }; no_open = λ g o. refl; no_end = λ g. refl; no_set = λ k has. refl }
 
     -- each place keeps its bearer
     keeps : Keeps w.nodes after
@@ -205,12 +215,8 @@ module _ (h : Header) (policies : ℕ) (t : List Entry) (w : WorldState) (sound 
     lane = subst (λ (x : Entities). IsLane b.n b.first (submitted b d t) (confirmed b d t) x.tx x.sent (half b (receiver_table d w.nodes)).rx) half_before was.lane
 
     -- and what it holds then, with the next COUNT
-    taken_lane : (c ≡ b.first + length (submitted b d t)) × IsLane b.n b.first (submitted b d t ++ payload ∷ []) (confirmed b d t) tx (e.sent ++ c ∷ []) (half b (receiver_table d w.nodes)).rx
-    taken_lane = lane_taken b.n b.first (submitted b d t) (confirmed b d t) e.tx e.sent (half b (receiver_table d w.nodes)).rx lane payload tx c ok
-
-    -- as many PDUs were sent as payloads submitted
-    sent_long : length e.sent ≡ length (submitted b d t)
-    sent_long = ap (λ (ks : List ℕ). length ks) lane.sent_are ∙ length-range_with_len b.first (length (submitted b d t))
+    taken_lane : (c ≡ b.first + length (submitted b d t)) × IsLane b.n b.first (submitted b d t ++ payload ∷ []) (confirmed b d t) tx (e.sent ++ Some c ∷ []) (half b (receiver_table d w.nodes)).rx
+    taken_lane = lane_taken b.n b.first (submitted b d t) (confirmed b d t) e.tx e.sent (half b (receiver_table d w.nodes)).rx lane payload tx c good ok
 
     -- each COUNT that was sent is received or under way
     owed_here : (k : ℕ) → b.first ≤ k → k < tx.next → Received (half b (receiver_table d w.nodes)).rx k ⊎ IsUnderWay b k (on links' (leg d))
@@ -288,20 +294,27 @@ module _ (h : Header) (policies : ℕ) (t : List Entry) (w : WorldState) (sound 
     )
 
     -- so its promise holds
-    pdu : IsPduOf h (t ++ entry ∷ []) d f
+    pdu : IsPduOf h (t ++ entry ∷ []) after d f
     pdu =
         let counted : c ≡ b.first + length (submitted b d t) = taken_lane.0 in
-        let long = sent_long in
-        let place : length e.sent ≡ c - b.first = omega arith in
         record {
           bearer = b;
           there = there_then t entry plain.undrawn b here;
+          num = length e.sent;
           count = c;
+          numbered = ap (λ (x : Entities). slice_get x.sent (length e.sent)) half_after ∙ slice_get_last e.sent (Some c);
           payload = payload;
           good = good;
           submission = record { counted = omega arith; payload = submission_then };
-          is = ap (λ k. data_flight h b d k c payload) place;
+          is = refl;
         }
+
+    -- the PDUs sent before have their numbers
+    numbers_kept : (b' : Established) (d' : Dir) → Contains (established t) b' → (num : ℕ) (o : Option ℕ) → IsNumberOf w.nodes b' d' num o → IsNumberOf after b' d' num o
+    numbers_kept = each_bearer (established t) sound.tables.once b here d id named (λ x k. (num : ℕ) (o : Option ℕ) → IsNumberOf w.nodes x k num o → IsNumberOf after x k num o)
+        (λ num o is. subst (λ (x : Entities). slice_get x.sent num ≡ Some o) (sym half_after)
+        (slice_get_left e.sent (Some c ∷ []) num o (subst (λ (x : Entities). slice_get x.sent num ≡ Some o) half_before is)))
+        (λ b' d' at' apart num o is. subst (λ (x : Entities). slice_get x.sent num ≡ Some o) (sym (sender_put_apart d w.nodes id e' b' d' apart)) is)
 
     -- ---- the other claims
 
@@ -328,20 +341,20 @@ module _ (h : Header) (policies : ℕ) (t : List Entry) (w : WorldState) (sound 
         let counted : c ≡ b.first + length (submitted b d t) = taken_lane.0 in
         record {
           reasons = (
-            (
+            inl (
               is_data_flight h d b c payload,
-              record {
+              inl (record {
                 sdu = payload;
                 submits = ap (λ k. Submit k d payload) (sym named) ∙ ap (λ k. Submit b.id k payload) (sym (direction_leg d));
                 accepted = refl;
                 bearer = b;
-                of_bearer = sound.tables.once b here;
-                of_generation = is_generation_once t b sound.tables.once here;
+                of_bearer = record { latest_is = sound.tables.once b here; of_generation = is_generation_once t b sound.tables.once here };
                 tagged = ap Some counted ∙ ap (λ k. Some (b.first + length (submitted b k t))) (sym (direction_leg d));
-              },
+              }),
             ),
             tt,
           );
+          ascends = (omega arith, tt);
           one = omega arith;
         }
 
@@ -365,6 +378,7 @@ module _ (h : Header) (policies : ℕ) (t : List Entry) (w : WorldState) (sound 
         (on_then mt_ctl ∙ ap (λ fs. on w.links mt_ctl ++ fs) (no_command d f) ∙ append-nil (on w.links mt_ctl))
         (on_then tm_ctl ∙ ap (λ fs. on w.links tm_ctl ++ fs) (no_completion d f) ∙ append-nil (on w.links tm_ctl))
         (λ b' at' busy absent d'. submission_apart b' d' (inr (not_opening d id e at there b' at' busy absent)))
+        (λ b' at' busy. ap (λ (x : Entities). x.sent) (sender_put_apart d w.nodes id e' b' Dl (apart_at_master d id b there b' at' busy)))
         sound.phase
 
     -- so all is kept
@@ -373,7 +387,7 @@ module _ (h : Header) (policies : ℕ) (t : List Entry) (w : WorldState) (sound 
       tables = tabled_same t entry plain w.nodes after keeps sound.tables;
       phase = phase;
       served = λ b' d' at'. served_all b' d' (there_before t entry plain.undrawn b' at');
-      grows = grows_same t entry w.nodes after (there_then t entry plain.undrawn) (λ b' d' at'. rx_still b' d');
+      grows = grows_same t entry w.nodes after (there_then t entry plain.undrawn) (λ b' d' at'. rx_still b' d') numbers_kept;
       sent = (promised h (t ++ entry ∷ []) after d f pdu, tt);
       none_sent = none_sent;
       protects = protects_all;
@@ -389,5 +403,5 @@ module _ (h : Header) (policies : ℕ) (t : List Entry) (w : WorldState) (sound 
       → bearer_in (sender_table d w.nodes) id ≡ Some e → at_submitter d id t ≡ Some e.bearer → taken e.tx payload ≡ Ok (tx, c)
       → Happened h policies t w
       (record { event = Submit id d payload; answer = answer.Ok; lines = line.Send (leg d) (data_flight h e.bearer d (length e.sent) c payload) ∷ [] })
-      (with_sender d w.nodes (with_bearer (sender_table d w.nodes) id (Some (record e { tx = tx; sent = e.sent ++ c ∷ [] }))))
+      (with_sender d w.nodes (with_bearer (sender_table d w.nodes) id (Some (record e { tx = tx; sent = e.sent ++ Some c ∷ [] }))))
   submitted_happened id d payload e tx c good at there ok = happened id d payload e tx c good at there ok
