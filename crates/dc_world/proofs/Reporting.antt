@@ -1,30 +1,372 @@
 -- A status report is asked for and sent, or comes.
-use Rattle.std.proofs.Common.{ℕ, ◌≡◌, ◌++◌, List, [], ◌∷◌, Option, Some, None, slice_get, refl, sym, ap, ◌∙◌, subst}
+use Rattle.std.proofs.Common.{ℕ, ◌≡◌, ◌<◌, ◌≤◌, ◌==◌, ◌++◌, List, [], ◌∷◌, Option, Some, None, true, false, Bool, Ok, slice_get, refl, sym, ap, ◌∙◌, subst, arith, inl, inr}
+use Rattle.std.specs.Prelude.{Contains, nat_lt, count_by, ◌&&◌, if◌then◌else◌, fold}
+use Rattle.std.specs.List.{AllByRecursion, flat_map}
+use Rattle.std.proofs.lemmas.List.{append-nil}
+use Rattle.std.proofs.lemmas.Option.{none-some}
+use Rattle.std.proofs.lemmas.Bool.{cases_Bool, eq-eqb, cond-true, and_from}
 use Rattle.dc_base.specs.declared.nodes.Dir.{Dir}
+use Rattle.dc_base.specs.declared.nodes.Dir.TheVariants.{Ul, Dl}
+use Rattle.dc_base.specs.declared.nodes.LinkId.{LinkId}
 use Rattle.dc_base.specs.declared.flights.Flight.{Flight}
+use Rattle.dc_base.specs.declared.flights.Flight.TheVariants as flight
 use Rattle.dc_base.specs.declared.answers.Answer.TheVariants as answer
 use Rattle.dc_base.specs.declared.events.Header.{Header}
 use Rattle.dc_base.specs.declared.events.Event.TheVariants.{Report, Step}
-use Rattle.transcript.specs.Transcript.{Entry}
-use Rattle.transcript.specs.Bearers.{at_submitter, submitter}
-use Rattle.dc_world.specs.Entities.{Entities, bearer_in, with_bearer}
-use Rattle.dc_world.specs.Plane.{leg, air_taken, reports}
+use Rattle.dc_base.specs.declared.events.Line.{Line}
+use Rattle.pdcp_pdu.specs.Bitmap.{names}
+use Rattle.pdcp_pdu.specs.Pdu.{report, decoded}
+use Rattle.pdcp_tx.specs.Sender.{Sender, low}
+use Rattle.pdcp_tx.specs.Sending.{reported as without_named}
+use Rattle.pdcp_rx.specs.Receiver.{Received}
+use Rattle.transcript.specs.Transcript.{Entry, sends}
+use Rattle.transcript.specs.Content.{mt_ctl, tm_ctl, is_to, given, on_link, reverse}
+use Rattle.transcript.specs.Bearers.{Established, OpenCommand, reported, established, is_generation_of, is_same_dir, ends_command, has_after, submitted, ups, up_of, freed_of, frees, read_of, confirmed_by, confirms, confirmed, tag_of, tags_sent, at_submitter, submitter}
+use Rattle.transcript.specs.Claims.{IsDataFlight, IsProtected, IsReason, AscendsFrom, count_in, is_uncounted, step_answer, HasCause}
+use Rattle.transcript.proofs.Establishing.{is_latest_once, is_generation_once}
+use Rattle.dc_world.specs.Entities.{Entities, Table, bearer_in, with_bearer}
+use Rattle.dc_world.specs.Plane.{leg, other, air_taken, taken_for, flight_taken, pdu_taken, freed_lines, ack_line, reports}
 use Rattle.dc_world.specs.Control.{Nodes}
-use Rattle.dc_world.specs.Links.{on}
+use Rattle.dc_world.specs.Links.{Links, on, moved}
 use Rattle.dc_world.specs.Run.{WorldState}
-use Rattle.dc_world.proofs.Tables.{with_sender, with_receiver}
-use Rattle.dc_world.proofs.Sound.{sender_table, receiver_table, IsReportOf, Happened, Sound}
+use Rattle.dc_world.proofs.Asking.{asked_happened}
+use Rattle.dc_world.proofs.Lane.{IsLane, lane_confirmed}
+use Rattle.dc_world.proofs.Tables.{with_sender, with_receiver, Keeps, half_at, receiver_put, receiver_put_same, sender_put_here, sender_put_apart, sender_put_rx, keeps_receiver}
+use Rattle.dc_world.proofs.Directions.{each_bearer, Apart, same_dir, not_named}
+use Rattle.dc_world.proofs.Plain.{IsPlain, there_then, there_before, tabled_same, phase_same}
+use Rattle.dc_world.proofs.Served.{lane_same, served_next, served_still}
+use Rattle.dc_world.proofs.Silent.{no_ups, no_move, none_carried, none_sent_still, grows_same}
+use Rattle.dc_world.proofs.Contents.{step_given, step_due}
+use Rattle.dc_world.proofs.Leaving.{no_command, no_completion, flying_after, control_down, control_up}
+use Rattle.dc_world.proofs.Having.{receiver_has}
+use Rattle.dc_world.proofs.Sound.{or_fresh, half, sender_table, receiver_table, IsUnderWay, IsNumberOf, IsReportOf, IsAckOf, PromiseOf, an_ack, listed, IsServed, Happened, Sound}
+
+-- ---- a freed line before others
+
+-- such a line sends nothing
+freed_then_sends : (id : ℕ) (d : Dir) (x y : ℕ) (rest : List Line) → sends (freed_lines id d x y ++ rest) ≡ sends rest
+freed_then_sends id d x y rest = elim (cases_Bool (nat_lt x y)) [ inl less ↦ rw less refl | inr most ↦ rw most refl ]
+
+-- it hands nothing up
+freed_then_ups : (b : Established) (k : Dir) (id : ℕ) (d : Dir) (x y : ℕ) (rest : List Line) → flat_map (up_of b k) (freed_lines id d x y ++ rest) ≡ flat_map (up_of b k) rest
+freed_then_ups b k id d x y rest = elim (cases_Bool (nat_lt x y)) [ inl less ↦ rw less refl | inr most ↦ rw most refl ]
+
+-- it ends no command
+freed_then_ends : (o : Option OpenCommand) (id : ℕ) (d : Dir) (x y : ℕ) (rest : List Line) → fold ends_command o (freed_lines id d x y ++ rest) ≡ fold ends_command o rest
+freed_then_ends o id d x y rest = elim (cases_Bool (nat_lt x y)) [ inl less ↦ rw less refl | inr most ↦ rw most refl ]
+
+-- it sets no bearer up
+freed_then_sets : (k : ℕ) (has : Bool) (id : ℕ) (d : Dir) (x y : ℕ) (rest : List Line) → fold (has_after k) has (freed_lines id d x y ++ rest) ≡ fold (has_after k) has rest
+freed_then_sets k has id d x y rest = elim (cases_Bool (nat_lt x y)) [ inl less ↦ rw less refl | inr most ↦ rw most refl ]
+
+-- of another bearer or direction it says nothing
+freed_then_apart : (b : Established) (k : Dir) (id : ℕ) (d : Dir) (x y : ℕ) (rest : List Line) → Apart d id k b.id → flat_map (freed_of b k) (freed_lines id d x y ++ rest) ≡ flat_map (freed_of b k) rest
+freed_then_apart b k id d x y rest apart = elim (cases_Bool (nat_lt x y)) [ inl less ↦ rw (less, not_named d id k b.id apart) refl | inr most ↦ rw most refl ]
+
+-- of its own it says where Low is, where Low rises
+freed_then_here : (b : Established) (d : Dir) (x y : ℕ) (rest : List Line) → flat_map (freed_of b d) (freed_lines b.id d x y ++ rest) ≡ (if nat_lt x y then y ∷ [] else []) ++ flat_map (freed_of b d) rest
+freed_then_here b d x y rest =
+    let mine : ((b.id == b.id) && is_same_dir d d) ≡ true = and_from (b.id == b.id) (is_same_dir d d) (eq-eqb b.id b.id refl) (same_dir d) in
+    elim (cases_Bool (nat_lt x y)) [ inl less ↦ rw (less, mine) refl | inr most ↦ rw most refl ]
+
+-- where Low is, if that is further than before
+abbrev rising : Entities → Entities → List ℕ
+rising x y = if nat_lt (low x.tx) (low y.tx) then low y.tx ∷ [] else []
+
+-- ---- the two ends of a leg
+
+-- the receiver's table is that from which it sends the other way
+half_back : (d : Dir) (s : Nodes) (b : Established) (r : Entities) → bearer_in (receiver_table d s) b.id ≡ Some r → half b (sender_table (other d) s) ≡ r
+half_back Dl s b r has = half_at b s.terminal b.id r has refl
+half_back Ul s b r has = half_at b s.master b.id r has refl
+
+-- what it sends with is there then
+put_back_here : (d : Dir) (s : Nodes) (b : Established) (r r' : Entities) → bearer_in (receiver_table d s) b.id ≡ Some r → half b (sender_table (other d) (receiver_put d s b.id r')) ≡ r'
+put_back_here Dl s b r r' has = sender_put_here Ul s b b.id r r' has refl
+put_back_here Ul s b r r' has = sender_put_here Dl s b b.id r r' has refl
+
+-- any other is as before
+put_back_apart : (d : Dir) (s : Nodes) (id : ℕ) (r : Entities) (x : Established) (k : Dir) → Apart (other d) id k x.id → half x (sender_table k (receiver_put d s id r)) ≡ half x (sender_table k s)
+put_back_apart Dl s id r x k apart = sender_put_apart Ul s id r x k apart
+put_back_apart Ul s id r x k apart = sender_put_apart Dl s id r x k apart
+
+-- and so is each receiving side
+put_back_rx : (d : Dir) (s : Nodes) (id : ℕ) (r r' : Entities) → bearer_in (receiver_table d s) id ≡ Some r → r'.rx ≡ r.rx
+    → (x : Established) (k : Dir) → (half x (receiver_table k (receiver_put d s id r'))).rx ≡ (half x (receiver_table k s)).rx
+put_back_rx Dl s id r r' has same x k = sender_put_rx Ul s id r r' has same x k
+put_back_rx Ul s id r r' has same x k = sender_put_rx Dl s id r r' has same x k
+
+-- what a PDU on a link confirms
+pdu_confirms : (x : Established) (k : Dir) (t : List Entry) (l : LinkId) (id g num : ℕ) (tag : Option ℕ) (pdu : List ℕ)
+    → confirmed_by x k t (Some (l, flight.Air id g num tag pdu)) ≡ (if is_to (submitter k) l && (id == x.id) && is_generation_of x g t then read_of (decoded x.n pdu) else [])
+pdu_confirms x Dl t l id g num tag pdu = refl
+pdu_confirms x Ul t l id g num tag pdu = refl
+
+-- what comes on a leg comes to the submitter of the other direction
+comes_back : (d : Dir) → is_to (submitter (other d)) (leg d) ≡ true
+comes_back Dl = refl
+comes_back Ul = refl
+
+-- and not to its own
+not_own : (d : Dir) → is_to (submitter (other (other d))) (leg d) ≡ false
+not_own Dl = refl
+not_own Ul = refl
+
+-- a report is neither out of order nor aged
+report_due : (d : Dir) (t : List Entry) (i id g num : ℕ) (pdu : List ℕ) → step_answer t (leg d) i (Some (flight.Air id g num None pdu)) ≡ answer.Ok
+report_due Dl t i id g num pdu = refl
+report_due Ul t i id g num pdu = refl
+
+-- a confirm of what came on a leg is promised on the other
+ack_promised : (h : Header) (t : List Entry) (s : Nodes) (d : Dir) (f : Flight) → IsAckOf t s d f → PromiseOf h t s (leg (other d), f)
+ack_promised h t s Dl f ack = an_ack ack
+ack_promised h t s Ul f ack = an_ack ack
+
+-- the other leg is the same link turned round
+leg_back : (d : Dir) → leg (other d) ≡ reverse (leg d)
+leg_back Dl = refl
+leg_back Ul = refl
 
 module _ (h : Header) (policies : ℕ) (t : List Entry) (w : WorldState) (sound : Sound h policies t w) where
+  -- ---- one report
+
+  module _ (d : Dir) (i : ℕ) (r : Entities) (here : Contains (established t) r.bearer) (has : bearer_in (receiver_table d w.nodes) r.bearer.id ≡ Some r)
+      (num : ℕ) (numbered : IsNumberOf w.nodes r.bearer d num None) (pdu : List ℕ) (fmc : ℕ) (bits : List ℕ) (read : decoded r.bearer.n pdu ≡ Ok (report fmc bits))
+      (named : (c : ℕ) → r.bearer.first ≤ c → names fmc bits c ≡ true → Received (half r.bearer (receiver_table (other d) w.nodes)).rx c)
+      (at : slice_get (on w.links (leg d)) i ≡ Some (flight.Air r.bearer.id r.bearer.g num None pdu)) where
+    -- the bearer
+    abbrev b : Established
+    b = r.bearer
+
+    -- the flight
+    abbrev f : Flight
+    f = flight.Air b.id b.g num None pdu
+
+    -- the sending entity then
+    abbrev tx' : Sender
+    tx' = without_named r.tx fmc bits
+
+    -- what the node holds of the bearer then
+    abbrev r' : Entities
+    r' = record r { tx = tx' }
+
+    -- what the nodes hold then
+    abbrev after : Nodes
+    after = receiver_put d w.nodes b.id r'
+
+    -- the confirm
+    abbrev ack : List Line
+    ack = ack_line b d num ∷ []
+
+    -- it tells where Low is, if it rises, and confirms the report
+    abbrev lines : List Line
+    lines = freed_lines b.id (other d) (low r.tx) (low tx') ++ ack
+
+    -- what happens
+    abbrev entry : Entry
+    entry = record { event = Step (leg d) i; answer = answer.Ok; lines = lines }
+
+    -- what the links hold then
+    abbrev links' : Links
+    links' = moved w.links (Some (leg d, i)) lines
+
+    -- it is plain
+    plain : IsPlain entry
+    plain = record {
+      undrawn = record { no_plan = λ g. refl; no_draw = refl };
+      no_open = λ g o. refl;
+      no_end = λ o. freed_then_ends o b.id (other d) (low r.tx) (low tx') ack;
+      no_set = λ k has'. freed_then_sets k has' b.id (other d) (low r.tx) (low tx') ack;
+    }
+
+    -- each place keeps its bearer
+    keeps : Keeps w.nodes after
+    keeps = keeps_receiver d w.nodes b.id r r' has refl
+
+    -- and its receiving side
+    rx_still : (x : Established) (k : Dir) → (half x (receiver_table k after)).rx ≡ (half x (receiver_table k w.nodes)).rx
+    rx_still x k = put_back_rx d w.nodes b.id r r' has refl x k
+
+    -- and its numbers
+    sent_still : (x : Established) (k : Dir) → (half x (sender_table k after)).sent ≡ (half x (sender_table k w.nodes)).sent
+    sent_still x k = receiver_put_same (λ o. (or_fresh x o).sent) d w.nodes b.id r r' has refl k x.id
+
+    -- ---- what the entry says
+
+    -- it sends the confirm alone
+    sends_are : sends lines ≡ (leg (other d), flight.Ack b.id b.g num) ∷ []
+    sends_are = freed_then_sends b.id (other d) (low r.tx) (low tx') ack
+
+    -- no PDU with a COUNT is sent
+    no_tags : (l : LinkId) (id g k : ℕ) → flat_map (tag_of l id g k) (sends lines) ≡ []
+    no_tags l id g k = ap (λ ss. flat_map (tag_of l id g k) ss) sends_are
+
+    -- nothing goes up
+    nothing_up : (x : Established) (k : Dir) → ups x k t entry ≡ []
+    nothing_up x k = no_ups x k t entry (freed_then_ups x k b.id (other d) (low r.tx) (low tx') ack)
+
+    -- the report is given
+    given_is : given t entry ≡ Some (leg d, f)
+    given_is = step_given t w.links sound.contents (leg d) i f at lines
+
+    -- what was under way is so still
+    flying : (x : Established) (k : Dir) (c : ℕ) → IsUnderWay x c (on w.links (leg k)) → IsUnderWay x c (on links' (leg k))
+    flying x k c way = elim (flying_after w.links sound.long d i f at lines x k c way) [ inl it ↦ absurd (none-some c it.1.2) | inr still ↦ still ]
+
+    -- it confirms what it names of the bearer, sent the other way
+    confirms_here : confirms b (other d) t entry ≡ reported fmc bits ∷ []
+    confirms_here =
+        ap (confirmed_by b (other d) t) given_is ∙ pdu_confirms b (other d) t (leg d) b.id b.g num None pdu
+        ∙ rw (comes_back d, eq-eqb b.id b.id refl, is_generation_once t b sound.tables.once here) (ap read_of read)
+
+    -- and nothing for any other
+    confirms_apart : (x : Established) (k : Dir) → Apart (other d) b.id k x.id → confirms x k t entry ≡ []
+    confirms_apart x k apart =
+        ap (confirmed_by x k t) given_is ∙ pdu_confirms x k t (leg d) b.id b.g num None pdu
+        ∙ elim apart [
+          | inl turned ↦
+              let own : is_to (submitter k) (leg d) ≡ false = ap (λ j. is_to (submitter j) (leg d)) turned ∙ not_own d in
+              rw own refl
+          | inr unlike ↦ elim (cases_Bool (is_to (submitter k) (leg d))) [ inl yes' ↦ rw (yes', unlike) refl | inr no' ↦ rw no' refl ]
+        ]
+
+    -- ---- the bearer
+
+    -- what the node held of it
+    half_before : half b (sender_table (other d) w.nodes) ≡ r
+    half_before = half_back d w.nodes b r has
+
+    -- and holds then
+    half_after : half b (sender_table (other d) after) ≡ r'
+    half_after = put_back_here d w.nodes b r r' has
+
+    -- the bearer was served
+    was : IsServed t w.nodes w.links b (other d)
+    was = sound.served b (other d) here
+
+    -- so was what the node held
+    lane : IsLane b.n b.first (submitted b (other d) t) (confirmed b (other d) t) r.tx r.sent (half b (receiver_table (other d) w.nodes)).rx
+    lane = subst (λ (x : Entities). IsLane b.n b.first (submitted b (other d) t) (confirmed b (other d) t) x.tx x.sent (half b (receiver_table (other d) w.nodes)).rx) half_before was.lane
+
+    -- the bearer is served
+    served_here : IsServed (t ++ entry ∷ []) after links' b (other d)
+    served_here =
+        served_next t w.nodes w.links b (other d) entry after links' was (nothing_up b (other d)) (rx_still b (other d))
+        (lane_same b.n b.first _ _ _ _ _ _ _ _ _ _ (append-nil (submitted b (other d) t)) (ap (λ cs. confirmed b (other d) t ++ cs) confirms_here)
+        (ap (λ (x : Entities). x.tx) half_after) (ap (λ (x : Entities). x.sent) half_after) refl
+        (lane_confirmed b.n b.first (submitted b (other d) t) (confirmed b (other d) t) r.tx r.sent (half b (receiver_table (other d) w.nodes)).rx lane (reported fmc bits) named))
+        (λ k from below.
+        let before = subst (λ (x : Entities). k < x.tx.next) half_after below in
+        elim (was.owed k from (subst (λ (x : Entities). k < x.tx.next) (sym half_before) before)) [
+          | inl got ↦ inl got
+          | inr way ↦ inr (flying b (other d) k way)
+        ])
+        (λ n.
+        ap (λ xs. tags_sent (leg (other d)) b.id b.g n t ++ xs) (no_tags (leg (other d)) b.id b.g n) ∙ append-nil _
+        ∙ was.numbers n ∙ ap (λ xs. listed (slice_get xs n)) (sym (sent_still b (other d))))
+
+    -- so is every other
+    served_all : (x : Established) (k : Dir) → Contains (established t) x → IsServed (t ++ entry ∷ []) after links' x k
+    served_all = each_bearer (established t) sound.tables.once b here (other d) b.id refl (λ x k. IsServed (t ++ entry ∷ []) after links' x k) served_here (λ x k there apart.
+        let same : half x (sender_table k after) ≡ half x (sender_table k w.nodes) = put_back_apart d w.nodes b.id r' x k apart in
+        served_still t w.nodes w.links x k entry after links' (sound.served x k there) (nothing_up x k) (rx_still x k) refl (confirms_apart x k apart)
+        (λ n. no_tags (leg k) x.id x.g n) (ap (λ (y : Entities). y.tx) same) (sent_still x k) (λ c way. inr (flying x k c way)))
+
+    -- its window moves where Low rises, and no other
+    freed_all : (x : Established) (k : Dir) → Contains (established t) x
+        → frees x k t entry ≡ (if nat_lt (low (half x (sender_table k w.nodes)).tx) (low (half x (sender_table k after)).tx) then low (half x (sender_table k after)).tx ∷ [] else [])
+    freed_all x k there =
+        cond-true _ _ _ (is_latest_once t x sound.tables.once there)
+        ∙ each_bearer (established t) sound.tables.once b here (other d) b.id refl (λ x k. flat_map (freed_of x k) lines ≡ rising (half x (sender_table k w.nodes)) (half x (sender_table k after)))
+        (freed_then_here b (other d) (low r.tx) (low tx') ack ∙ append-nil _ ∙ ap (λ y. rising y r') (sym half_before) ∙ ap (rising (half b (sender_table (other d) w.nodes))) (sym half_after))
+        (λ x k there apart. freed_then_apart x k b.id (other d) (low r.tx) (low tx') ack apart ∙ no_move _ _ (ap (λ (y : Entities). low y.tx) (put_back_apart d w.nodes b.id r' x k apart))) x k there
+
+    -- ---- the confirm
+
+    -- numbers of the legs stay
+    numbers_stay : (x : Established) (k : Dir) (n : ℕ) (sent : Option ℕ) → IsNumberOf w.nodes x k n sent → IsNumberOf after x k n sent
+    numbers_stay x k n sent is = ap (λ xs. slice_get xs n) (sent_still x k) ∙ is
+
+    -- its promise holds
+    the_ack : IsAckOf (t ++ entry ∷ []) after d (flight.Ack b.id b.g num)
+    the_ack = record {
+      bearer = b;
+      there = there_then t entry plain.undrawn b here;
+      num = num;
+      sent = None;
+      numbered = numbers_stay b d num None numbered;
+      got = tt;
+      is = refl;
+    }
+
+    -- the answer that was due
+    cause_is : HasCause policies t entry
+    cause_is = sym (step_due t w.links sound.contents (leg d) i f at ∙ report_due d t i b.id b.g num pdu)
+
+    -- so all is kept
+    heeded_happened : Happened h policies t w entry after
+    heeded_happened =
+        let before = there_before t entry plain.undrawn in
+        record {
+          tables = tabled_same t entry plain w.nodes after keeps sound.tables;
+          phase = phase_same t entry plain w.nodes after keeps h w.links links'
+              (control_down w.links sound.long d i f at lines (ap (λ ss. flat_map (on_link mt_ctl) ss) sends_are ∙ no_command (other d) (flight.Ack b.id b.g num)))
+              (control_up w.links sound.long d i f at lines (ap (λ ss. flat_map (on_link tm_ctl) ss) sends_are ∙ no_completion (other d) (flight.Ack b.id b.g num)))
+              (λ x there busy absent k. refl) (λ x there busy. sent_still x Dl) sound.phase;
+          served = λ x k there. served_all x k (before x there);
+          grows = grows_same t entry w.nodes after (there_then t entry plain.undrawn) (λ x k there. rx_still x k) (λ x k there. numbers_stay x k);
+          sent = subst (AllByRecursion (PromiseOf h (t ++ entry ∷ []) after)) (sym sends_are) (ack_promised h (t ++ entry ∷ []) after d (flight.Ack b.id b.g num) the_ack, tt);
+          none_sent = none_sent_still t entry no_tags sound.none_sent;
+          protects = λ x k there. subst (AllByRecursion (λ s. IsDataFlight (t ++ entry ∷ []) x k s → IsProtected h (t ++ entry ∷ []) x k s)) (sym sends_are) ((λ data'. absurd data'), tt);
+          carried = λ x k there. none_carried x k t entry (nothing_up x k);
+          freed = λ x k there. freed_all x k (before x there);
+          fresh_before = λ x there. inl (before x there);
+          cause = cause_is;
+          licence = record {
+            reasons = subst (AllByRecursion (IsReason h t entry)) (sym sends_are) (record { from = leg d; back = leg_back d; tag = None; pdu = pdu; is_given = given_is }, tt);
+            ascends = subst (λ (ss : List (LinkId × Flight)). AscendsFrom 0 (flat_map count_in ss)) (sym sends_are) tt;
+            one = subst (λ (ss : List (LinkId × Flight)). count_by is_uncounted ss ≤ 1) (sym sends_are) (omega arith);
+          };
+        }
+
+    -- what the node's rule makes of it
+    taken_is : air_taken h d (receiver_table d w.nodes) f ≡ (with_bearer (receiver_table d w.nodes) b.id (Some r'), lines)
+    taken_is =
+        let for_it : flight_taken h d r f ≡ (r', lines) = cond-true _ _ _ (eq-eqb b.g b.g refl) ∙ ap (pdu_taken h d r num) read in
+        ap (taken_for h d (receiver_table d w.nodes) b.id f) has
+        ∙ ap (λ (q : Entities × List Line). (with_bearer (receiver_table d w.nodes) b.id (Some q.0), q.1)) for_it
+
+    -- so what it makes of it happened
+    heard_happened : let done = air_taken h d (receiver_table d w.nodes) f in
+        Happened h policies t w (record { event = Step (leg d) i; answer = answer.Ok; lines = done.1 }) (with_receiver d w.nodes done.0)
+    heard_happened =
+        let Q : Table × List Line → Type 0 = λ q. Happened h policies t w (record { event = Step (leg d) i; answer = answer.Ok; lines = q.1 }) (with_receiver d w.nodes q.0) in
+        subst Q (sym taken_is) heeded_happened
+
+  -- ---- the two events
+
   -- the node that submits in this direction sends a report
   pub reports_happened : (d : Dir) (id : ℕ) (e : Entities) → bearer_in (sender_table d w.nodes) id ≡ Some e → at_submitter d id t ≡ Some e.bearer
       → let done = reports d e in
-        Happened h policies t w (record { event = Report (submitter d) id; answer = answer.Ok; lines = done.1 })
-        (with_sender d w.nodes (with_bearer (sender_table d w.nodes) id (Some done.0)))
-  reports_happened d id e at there = ?
+      Happened h policies t w (record { event = Report (submitter d) id; answer = answer.Ok; lines = done.1 })
+      (with_sender d w.nodes (with_bearer (sender_table d w.nodes) id (Some done.0)))
+  reports_happened d id e at there = asked_happened h policies t w sound d id e at there
 
   -- a report comes
   pub report_happened : (d : Dir) (i : ℕ) (f : Flight) → slice_get (on w.links (leg d)) i ≡ Some f → IsReportOf t w.nodes d f
       → let done = air_taken h d (receiver_table d w.nodes) f in
-        Happened h policies t w (record { event = Step (leg d) i; answer = answer.Ok; lines = done.1 }) (with_receiver d w.nodes done.0)
-  report_happened d i f at report = ?
+      Happened h policies t w (record { event = Step (leg d) i; answer = answer.Ok; lines = done.1 }) (with_receiver d w.nodes done.0)
+  report_happened d i f at came =
+      let num = came.num in let pdu = came.pdu in let fmc = came.fmc in let bits = came.bits in
+      let found = receiver_has h t w.nodes w.links sound.tables sound.phase d came.bearer came.there num None came.numbered in
+      let r = found.0 in let same : came.bearer ≡ r.bearer = sym found.2 in
+      let f_is : f ≡ flight.Air r.bearer.id r.bearer.g num None pdu = came.is ∙ ap (λ (x : Established). flight.Air x.id x.g num None pdu) same in
+      let Q : Flight → Type 0 = λ g. let done = air_taken h d (receiver_table d w.nodes) g in
+      Happened h policies t w (record { event = Step (leg d) i; answer = answer.Ok; lines = done.1 }) (with_receiver d w.nodes done.0) in
+      subst Q (sym f_is)
+      (heard_happened d i r (subst (λ x. Contains (established t) x) same came.there)
+      (subst (λ (x : Established). bearer_in (receiver_table d w.nodes) x.id ≡ Some r) same found.1)
+      num (subst (λ (x : Established). IsNumberOf w.nodes x d num None) same came.numbered) pdu fmc bits
+      (subst (λ (x : Established). decoded x.n pdu ≡ Ok (report fmc bits)) same came.read)
+      (subst (λ (x : Established). (c : ℕ) → x.first ≤ c → names fmc bits c ≡ true → Received (half x (receiver_table (other d) w.nodes)).rx c) same came.named)
+      (at ∙ ap Some f_is))
