@@ -1,0 +1,465 @@
+-- A node sends again all that it keeps of a bearer: what a recovery owes at either node.
+use Rattle.std.proofs.Common.{ℕ, zero, suc, ◌≡◌, ◌+◌, ◌-◌, ◌<◌, ◌≤◌, ◌⊎◌, ◌==◌, ◌++◌, List, [], ◌∷◌, Option, Some, None, Bool, true, false, length, map, slice_get, refl, sym, ap, ◌∙◌, subst, arith, inl, inr, append_assoc}
+use Rattle.std.specs.Prelude.{Contains, if◌then◌else◌, fold, is_some, count_by}
+use Rattle.std.specs.List.{AllByRecursion, flat_map}
+use Rattle.std.specs.Option.{option_map}
+use Rattle.std.proofs.lemmas.List.{append-nil, length_push}
+use Rattle.std.proofs.lemmas.Bool.{cases_Bool, eq-eqb, ne_eqb}
+use Rattle.std.proofs.lemmas.Bool.Decides.{nat_tests}
+use Rattle.dc_base.specs.Count.{sn}
+use Rattle.dc_base.specs.declared.nodes.Dir.{Dir}
+use Rattle.dc_base.specs.declared.nodes.Dir.TheVariants.{Ul, Dl}
+use Rattle.dc_base.specs.declared.nodes.LinkId.{LinkId}
+use Rattle.dc_base.specs.declared.flights.Flight.{Flight}
+use Rattle.dc_base.specs.declared.flights.Flight.TheVariants as flight
+use Rattle.dc_base.specs.declared.records.Rec.{Rec}
+use Rattle.dc_base.specs.declared.answers.Answer.TheVariants as answer
+use Rattle.dc_base.specs.declared.events.Header.{Header}
+use Rattle.dc_base.specs.declared.events.Event.{Event}
+use Rattle.dc_base.specs.declared.events.Line.TheVariants as line
+use Rattle.pdcp_pdu.specs.DataPdu.{IsPayload, data_pdu}
+use Rattle.pdcp_tx.specs.Sender.{low, Rises}
+use Rattle.transcript.specs.Transcript.{Entry, sends}
+use Rattle.transcript.specs.Content.{is_same_link, direction, put_on, place_taken, without_taken}
+use Rattle.transcript.specs.Bearers.{OpenCommand, Established, established, latest, generation, submission, submitted, confirms, confirmed, is_confirmed, up_of, freed_of, tag_of, opens, ends_command, open_command, has_after, is_set, key_in, master_key}
+use Rattle.transcript.specs.Claims.{Protects, ProtectsSubmission, IsDataFlight, IsProtected, IsReason, IsLicensed, HasCause, MakesRecover, SentAgain, AscendsFrom, count_in, is_uncounted}
+use Rattle.dc_world.specs.Entities.{Entities, bearer_in}
+use Rattle.dc_world.specs.Plane.{leg, other, ciphered, data_flight, resends}
+use Rattle.dc_world.specs.Control.{Nodes}
+use Rattle.dc_world.specs.Links.{Links, on, moved}
+use Rattle.dc_world.specs.Run.{WorldState}
+use Rattle.transcript.proofs.OnEach.{each_at}
+use Rattle.transcript.proofs.Establishing.{IsOnce, submitted-next, tags_sent-next, open_command-next, is_set-next, same_bearer, is_generation_once, established_drawn}
+use Rattle.dc_world.proofs.Lists.{slice_get_left}
+use Rattle.dc_world.proofs.Lane.{IsNumbered, IsGiven, IsLane, lane_sent, kept_unconfirmed}
+use Rattle.dc_world.proofs.Taking.{is_data_flight}
+use Rattle.dc_world.proofs.Tables.{is_established, Keeps, half_at, sender_put, sender_put_here, sender_put_apart, sender_put_rx, keeps_sender}
+use Rattle.dc_world.proofs.Contents.{on_moved}
+use Rattle.dc_world.proofs.Directions.{each_bearer, Apart, direction_leg}
+use Rattle.dc_world.proofs.Plain.{IsUndrawn, plans_same, established_same, generation_same, there_then, there_before, is_some_map, none_mapped}
+use Rattle.dc_world.proofs.Served.{lane_same, under_way_left, served_next, served_still}
+use Rattle.dc_world.proofs.Silent.{no_ups, no_frees, no_move, none_carried, grows_same}
+use Rattle.dc_world.proofs.Sound.{half, sender_table, receiver_table, IsNumberOf, IsPduOf, a_pdu, IsUnderWay, AllConfigured, PromiseOf, Phase, listed, IsServed, IsTabled, NoneSent, Happened, Sound}
+
+-- the PDUs of a leg for these payloads
+abbrev pub counts_sent : List (ℕ × List ℕ) → List (Option ℕ)
+counts_sent xs = map (λ x. Some x.0) xs
+
+-- ---- places
+
+-- nothing is added
+none_more : {A : Type 0} (xs ys : List A) → ys ≡ [] → xs ++ ys ≡ xs
+none_more xs ys none = ap (λ zs. xs ++ zs) none ∙ append-nil xs
+
+-- one more PDU was sent
+listed_push : (xs : List (Option ℕ)) (c num : ℕ) → listed (slice_get xs num) ++ (if length xs == num then c ∷ [] else []) ≡ listed (slice_get (xs ++ Some c ∷ []) num)
+listed_push [] c zero = refl
+listed_push [] c (suc num) = grind (arith, nat_tests)
+listed_push (None ∷ xs) c zero = grind (arith, nat_tests)
+listed_push (Some x ∷ xs) c zero = grind (arith, nat_tests)
+listed_push (x ∷ xs) c (suc num) = grind (arith, nat_tests, listed_push xs c num)
+
+-- a place of the second list, after the first
+slice_get_right : {X : Type 0} (xs ys : List X) (k : ℕ) (y : X) → slice_get ys k ≡ Some y → slice_get (xs ++ ys) (length xs + k) ≡ Some y
+slice_get_right [] ys k y at = subst (λ i. slice_get ys i ≡ Some y) (omega arith) at
+slice_get_right (x ∷ xs) ys k y at =
+    let next : suc (length xs + k) ≡ suc (length xs) + k = omega arith in
+    subst (λ i. slice_get (x ∷ (xs ++ ys)) i ≡ Some y) next (slice_get_right xs ys k y at)
+
+-- the COUNT of a payload stands at its place
+counts_at : (xs : List (ℕ × List ℕ)) (k : ℕ) (x : ℕ × List ℕ) → slice_get xs k ≡ Some x → slice_get (counts_sent xs) k ≡ Some (Some x.0)
+counts_at [] k x at = absurd cc
+counts_at (y ∷ xs) zero x at = let same : y ≡ x = cc in ap (λ (z : ℕ × List ℕ). Some (Some z.0)) same
+counts_at (y ∷ xs) (suc k) x at = counts_at xs k x at
+
+-- COUNTs that were given are given again
+given_again : (first next : ℕ) (P : ℕ × List ℕ → Type 0) → ((x : ℕ × List ℕ) → P x → (first ≤ x.0) × (x.0 < next)) → (xs : List (ℕ × List ℕ)) → AllByRecursion P xs
+    → AllByRecursion (IsGiven first next) (counts_sent xs)
+given_again first next P is [] all = tt
+given_again first next P is (x ∷ xs) all = (is x all.0, given_again first next P is xs all.1)
+
+-- ---- links and directions
+
+-- a leg is the same as itself
+same_leg : (d : Dir) → is_same_link (leg d) (leg d) ≡ true
+same_leg Dl = refl
+same_leg Ul = refl
+
+-- the legs of the two directions are two
+other_leg : (d : Dir) → is_same_link (leg (other d)) (leg d) ≡ false
+other_leg Dl = refl
+other_leg Ul = refl
+
+-- a PDU of the direction of its leg is promised
+promised : (h : Header) (t : List Entry) (s : Nodes) (d : Dir) (f : Flight) → IsPduOf h t s d f → PromiseOf h t s (leg d, f)
+promised h t s Dl f pdu = a_pdu pdu
+promised h t s Ul f pdu = a_pdu pdu
+
+-- ---- the lines
+
+module _ (h : Header) (b : Established) (d : Dir) where
+  -- what is so of each PDU sent again is so of all these sends
+  each_resent : (P : LinkId × Flight → Type 0) (num : ℕ) (xs : List (ℕ × List ℕ)) → ((k : ℕ) (x : ℕ × List ℕ) → slice_get xs k ≡ Some x → P (leg d, data_flight h b d (num + k) x.0 x.1))
+      → AllByRecursion P (sends (resends h b d num xs))
+  each_resent P num [] each = tt
+  each_resent P num (x ∷ xs) each =
+      let first : num + 0 ≡ num = omega arith in (
+        subst (λ m. P (leg d, data_flight h b d m x.0 x.1)) first (each 0 x refl),
+        each_resent P (num + 1) xs (λ k y at.
+            let next : num + suc k ≡ num + 1 + k = omega arith in
+            subst (λ m. P (leg d, data_flight h b d m y.0 y.1)) next (each (suc k) y at)),
+      )
+
+  -- they stand on no other link
+  pub resent_apart : (l : LinkId) → is_same_link l (leg d) ≡ false → (num : ℕ) (xs : List (ℕ × List ℕ)) → put_on l (resends h b d num xs) ≡ []
+  resent_apart l apart num [] = refl
+  resent_apart l apart num (x ∷ xs) =
+      ap (λ c. (if c then data_flight h b d num x.0 x.1 ∷ [] else []) ++ put_on l (resends h b d (num + 1) xs)) apart ∙ resent_apart l apart (num + 1) xs
+
+  -- nothing goes up
+  resent_ups : (c : Established) (k : Dir) (num : ℕ) (xs : List (ℕ × List ℕ)) → flat_map (up_of c k) (resends h b d num xs) ≡ []
+  resent_ups c k num [] = refl
+  resent_ups c k num (x ∷ xs) = resent_ups c k (num + 1) xs
+
+  -- no window moves
+  resent_frees : (c : Established) (k : Dir) (num : ℕ) (xs : List (ℕ × List ℕ)) → flat_map (freed_of c k) (resends h b d num xs) ≡ []
+  resent_frees c k num [] = refl
+  resent_frees c k num (x ∷ xs) = resent_frees c k (num + 1) xs
+
+  -- nothing is set at the terminal
+  pub resent_sets : (id : ℕ) (has : Bool) (num : ℕ) (xs : List (ℕ × List ℕ)) → fold (has_after id) has (resends h b d num xs) ≡ has
+  resent_sets id has num [] = refl
+  resent_sets id has num (x ∷ xs) = resent_sets id has (num + 1) xs
+
+  -- no command ends
+  pub resent_ends : (o : Option OpenCommand) (num : ℕ) (xs : List (ℕ × List ℕ)) → fold ends_command o (resends h b d num xs) ≡ o
+  resent_ends o num [] = refl
+  resent_ends o num (x ∷ xs) = resent_ends o (num + 1) xs
+
+  -- each COUNT is sent under the next number
+  resent_tags : (ys : List (Option ℕ)) (xs : List (ℕ × List ℕ)) (num n : ℕ) → n ≡ length ys
+      → listed (slice_get ys num) ++ flat_map (tag_of (leg d) b.id b.g num) (sends (resends h b d n xs)) ≡ listed (slice_get (ys ++ counts_sent xs) num)
+  resent_tags ys [] num n is = append-nil _ ∙ ap (λ zs. listed (slice_get zs num)) (sym (append-nil ys))
+  resent_tags ys (x ∷ xs) num n is =
+      let rest = flat_map (tag_of (leg d) b.id b.g num) (sends (resends h b d (n + 1) xs)) in
+      let tag : flat_map (tag_of (leg d) b.id b.g num) ((leg d, data_flight h b d n x.0 x.1) ∷ []) ≡ (if length ys == num then x.0 ∷ [] else []) =
+      rw (same_leg d, eq-eqb b.id b.id refl, eq-eqb b.g b.g refl, is) (append-nil _) in
+      let more : n + 1 ≡ length (ys ++ Some x.0 ∷ []) = ap (λ k. k + 1) is ∙ sym (length_push ys (Some x.0)) in
+      ap (λ zs. listed (slice_get ys num) ++ (zs ++ rest)) (sym (append-nil _) ∙ tag)
+      ∙ sym (append_assoc (listed (slice_get ys num)) (if length ys == num then x.0 ∷ [] else []) rest)
+      ∙ ap (λ zs. zs ++ rest) (listed_push ys x.0 num)
+      ∙ resent_tags (ys ++ Some x.0 ∷ []) xs num (n + 1) more
+      ∙ ap (λ zs. listed (slice_get zs num)) (append_assoc ys (Some x.0 ∷ []) (counts_sent xs))
+
+  -- on another link, or for another identity or generation, none is
+  resent_untagged : (l : LinkId) (id g num n : ℕ) → (is_same_link l (leg d) ≡ false) ⊎ ((b.id == id) ≡ false) ⊎ ((b.g == g) ≡ false) → (xs : List (ℕ × List ℕ))
+      → flat_map (tag_of l id g num) (sends (resends h b d n xs)) ≡ []
+  resent_untagged l id g num n apart [] = refl
+  resent_untagged l id g num n apart (x ∷ xs) =
+      let tag : tag_of l id g num (leg d, data_flight h b d n x.0 x.1) ≡ [] = elim apart [
+        | inl turned ↦ rw turned refl
+        | inr unlike ↦ elim (cases_Bool (is_same_link l (leg d))) [
+          | inr turned ↦ rw turned refl
+          | inl same ↦ elim unlike [
+            | inl other' ↦ rw (same, other') refl
+            | inr later ↦ elim (cases_Bool (b.id == id)) [ inl named ↦ rw (same, named, later) refl | inr other' ↦ rw (same, other') refl ]
+          ]
+        ]
+      ] in
+      ap (λ zs. zs ++ flat_map (tag_of l id g num) (sends (resends h b d (n + 1) xs))) tag ∙ resent_untagged l id g num (n + 1) apart xs
+
+  -- the COUNTs ascend
+  resent_ascend : (low from next num : ℕ) (xs : List (ℕ × List ℕ)) → low ≤ from → Rises from next xs → AscendsFrom low (flat_map count_in (sends (resends h b d num xs)))
+  resent_ascend low from next num [] le up = tt
+  resent_ascend low from next num (x ∷ xs) le up = (omega (arith, up.0), resent_ascend (x.0 + 1) (x.0 + 1) next (num + 1) xs (omega arith) up.1)
+
+  -- each has a COUNT
+  resent_counted : (num n : ℕ) (xs : List (ℕ × List ℕ)) → fold (λ a s. a + (if is_uncounted s then 1 else 0)) n (sends (resends h b d num xs)) ≡ n
+  resent_counted num n [] = refl
+  resent_counted num n (x ∷ xs) = resent_counted (num + 1) (n + 0) xs ∙ omega arith
+
+-- ---- the nodes, where the open command may be another
+
+-- what the nodes hold does not depend on the command
+sender_busy : (k : Dir) (s : Nodes) (o : Option OpenCommand) → sender_table k (record s { busy = o }) ≡ sender_table k s
+sender_busy Dl s o = refl
+sender_busy Ul s o = refl
+
+-- nor do the receivers' tables
+receiver_busy : (k : Dir) (s : Nodes) (o : Option OpenCommand) → receiver_table k (record s { busy = o }) ≡ receiver_table k s
+receiver_busy Dl s o = refl
+receiver_busy Ul s o = refl
+
+-- an entry with a record and then all that the bearer keeps
+module _ (h : Header) (policies : ℕ) (t : List Entry) (w : WorldState) (sound : Sound h policies t w) (d : Dir) (id : ℕ) (e : Entities)
+    (at : bearer_in (sender_table d w.nodes) id ≡ Some e) (event : Event) (l : LinkId) (r : Rec) (busy : Option OpenCommand) where
+  -- the bearer
+  abbrev pub b : Established
+  b = e.bearer
+
+  -- what happens
+  abbrev pub entry : Entry
+  entry = record { event = event; answer = answer.Ok; lines = line.Send l (flight.Ctl r) ∷ resends h b d (length e.sent) e.tx.kept }
+
+  -- what the node holds of the bearer then
+  abbrev pub e' : Entities
+  e' = record e { sent = e.sent ++ counts_sent e.tx.kept }
+
+  -- what the nodes hold then
+  abbrev pub after : Nodes
+  after = record (sender_put d w.nodes id e') { busy = busy }
+
+  -- what the links hold then
+  abbrev pub links' : Links
+  links' = moved w.links (place_taken event answer.Ok) entry.lines
+
+  -- the bearer is established
+  pub here : Contains (established t) b
+  here = (is_established t w.nodes sound.tables d id e at).0
+
+  -- under the identity that was named
+  pub named : b.id ≡ id
+  named = (is_established t w.nodes sound.tables d id e at).1
+
+  -- each place keeps its bearer
+  keeps : Keeps w.nodes (sender_put d w.nodes id e')
+  keeps = keeps_sender d w.nodes id e e' at refl
+
+  -- and its receiving side
+  rx_still : (b' : Established) (d' : Dir) → (half b' (receiver_table d' after)).rx ≡ (half b' (receiver_table d' w.nodes)).rx
+  rx_still b' d' = ap (λ table. (half b' table).rx) (receiver_busy d' (sender_put d w.nodes id e') busy) ∙ sender_put_rx d w.nodes id e e' at refl b' d'
+
+  -- what the node held of the bearer
+  half_before : half b (sender_table d w.nodes) ≡ e
+  half_before = half_at b (sender_table d w.nodes) id e at named
+
+  -- and holds then
+  half_after : half b (sender_table d after) ≡ e'
+  half_after = ap (half b) (sender_busy d (sender_put d w.nodes id e') busy) ∙ sender_put_here d w.nodes b id e e' at named
+
+  -- of every other it holds what it held
+  half_apart : (b' : Established) (d' : Dir) → Apart d id d' b'.id → half b' (sender_table d' after) ≡ half b' (sender_table d' w.nodes)
+  half_apart b' d' apart = ap (half b') (sender_busy d' (sender_put d w.nodes id e') busy) ∙ sender_put_apart d w.nodes id e' b' d' apart
+
+  -- another established bearer of the identity is none
+  the_bearer : (b' : Established) → Contains (established t) b' → b'.id ≡ id → b' ≡ b
+  the_bearer b' at' same = same_bearer (established t) b' b sound.tables.once at' here (same ∙ sym named)
+
+  -- the bearer was served
+  was : IsServed t w.nodes w.links b d
+  was = sound.served b d here
+
+  -- with what the node held
+  lane : IsLane b.n b.first (submitted b d t) (confirmed b d t) e.tx e.sent (half b (receiver_table d w.nodes)).rx
+  lane = subst (λ (x : Entities). IsLane b.n b.first (submitted b d t) (confirmed b d t) x.tx x.sent (half b (receiver_table d w.nodes)).rx) half_before was.lane
+
+  -- what is so of each payload that is kept
+  abbrev IsKeptHere : ℕ × List ℕ → Type 0
+  IsKeptHere x = IsNumbered b.first (submitted b d t) x × (x.0 < e.tx.next) × (is_confirmed (confirmed b d t) x.0 ≡ false) × IsPayload x.1
+
+  -- it was submitted, and is not confirmed
+  kept_here : AllByRecursion IsKeptHere e.tx.kept
+  kept_here = kept_unconfirmed b.n b.first (submitted b d t) (confirmed b d t) e.tx e.sent (half b (receiver_table d w.nodes)).rx lane
+
+  -- more PDUs were sent
+  lane_then : IsLane b.n b.first (submitted b d t) (confirmed b d t) e.tx (e.sent ++ counts_sent e.tx.kept) (half b (receiver_table d w.nodes)).rx
+  lane_then = lane_sent b.n b.first (submitted b d t) (confirmed b d t) e.tx e.sent (half b (receiver_table d w.nodes)).rx lane (counts_sent e.tx.kept)
+      (given_again b.first e.tx.next IsKeptHere (λ x is. (is.0.counted, is.1)) e.tx.kept kept_here)
+
+  -- Low stays
+  low_still : (b' : Established) (d' : Dir) → Contains (established t) b' → low (half b' (sender_table d' after)).tx ≡ low (half b' (sender_table d' w.nodes)).tx
+  low_still = each_bearer (established t) sound.tables.once b here d id named (λ x k. low (half x (sender_table k after)).tx ≡ low (half x (sender_table k w.nodes)).tx)
+      (ap (λ (x : Entities). low x.tx) half_after ∙ sym (ap (λ (x : Entities). low x.tx) half_before))
+      (λ b' d' at' apart. ap (λ (x : Entities). low x.tx) (half_apart b' d' apart))
+
+  -- each number stands for the PDU that it stood for
+  numbers_still : (b' : Established) (d' : Dir) → Contains (established t) b' → (num : ℕ) (o : Option ℕ) → IsNumberOf w.nodes b' d' num o → IsNumberOf after b' d' num o
+  numbers_still = each_bearer (established t) sound.tables.once b here d id named (λ x k. (num : ℕ) (o : Option ℕ) → IsNumberOf w.nodes x k num o → IsNumberOf after x k num o)
+      (λ num o is. subst (λ (x : Entities). slice_get x.sent num ≡ Some o) (sym half_after)
+      (slice_get_left e.sent (counts_sent e.tx.kept) num o (subst (λ (x : Entities). slice_get x.sent num ≡ Some o) half_before is)))
+      (λ b' d' at' apart num o is. subst (λ (x : Entities). slice_get x.sent num ≡ Some o) (sym (half_apart b' d' apart)) is)
+
+  -- nothing goes up
+  no_ups_here : (c : Established) (k : Dir) → flat_map (up_of c k) entry.lines ≡ []
+  no_ups_here c k = resent_ups h b d c k (length e.sent) e.tx.kept
+
+  -- no window moves
+  no_frees_here : (c : Established) (k : Dir) → flat_map (freed_of c k) entry.lines ≡ []
+  no_frees_here c k = resent_frees h b d c k (length e.sent) e.tx.kept
+
+  -- of no other bearer or direction is a COUNT sent
+  tag_apart : (b' : Established) (d' : Dir) (num : ℕ) → Apart d id d' b'.id → flat_map (tag_of (leg d') b'.id b'.g num) (sends entry.lines) ≡ []
+  tag_apart b' d' num (inl turned) =
+      resent_untagged h b d (leg d') b'.id b'.g num (length e.sent) (inl (ap (λ k. is_same_link (leg k) (leg d)) turned ∙ other_leg d)) e.tx.kept
+  tag_apart b' d' num (inr apart) = resent_untagged h b d (leg d') b'.id b'.g num (length e.sent) (inr (inl (ap (λ k. k == b'.id) named ∙ apart))) e.tx.kept
+
+  -- every bearer is still at the terminal
+  pub all_there : IsUndrawn entry → AllConfigured t w.nodes → AllConfigured (t ++ entry ∷ []) after
+  all_there undrawn all c is gone =
+      all c (there_before t entry undrawn c is) (none_mapped (bearer_in w.nodes.terminal c.id) (sym (keeps.bearers Ul c.id) ∙ ap (option_map (λ (x : Entities). x.bearer)) gone))
+
+  module _ (undrawn : IsUndrawn entry) (submits : (c : Established) (k : Dir) → submission c k t entry ≡ []) (confirming : (c : Established) (k : Dir) → confirms c k t entry ≡ [])
+      (stays : (k : Dir) (fs : List Flight) → without_taken (leg k) (place_taken event answer.Ok) fs ≡ fs) where
+    -- what was submitted is the same
+    submitted_same : (c : Established) (k : Dir) → submitted c k (t ++ entry ∷ []) ≡ submitted c k t
+    submitted_same c k = submitted-next c k t entry ∙ none_more (submitted c k t) (submission c k t entry) (submits c k)
+
+    -- what stands on a leg then
+    on_leg : (k : Dir) → on links' (leg k) ≡ on w.links (leg k) ++ put_on (leg k) entry.lines
+    on_leg k = on_moved w.links (place_taken event answer.Ok) entry.lines (leg k) sound.long ∙ ap (λ fs. fs ++ put_on (leg k) entry.lines) (stays k (on w.links (leg k)))
+
+    -- what was under way is so
+    flying : (b' : Established) (d' : Dir) (k : ℕ) → IsUnderWay b' k (on w.links (leg d')) → IsUnderWay b' k (on links' (leg d'))
+    flying b' d' k under = subst (IsUnderWay b' k) (sym (on_leg d')) (under_way_left b' k (on w.links (leg d')) (put_on (leg d') entry.lines) under)
+
+    -- ---- the bearer
+
+    -- the bearer is served
+    served_here : IsServed (t ++ entry ∷ []) after links' b d
+    served_here =
+        served_next t w.nodes w.links b d entry after links' was (no_ups b d t entry (no_ups_here b d)) (rx_still b d)
+        (lane_same b.n b.first _ _ _ _ _ _ _ _ _ _ (none_more (submitted b d t) (submission b d t entry) (submits b d)) (none_more (confirmed b d t) (confirms b d t entry) (confirming b d))
+        (ap (λ (x : Entities). x.tx) half_after) (ap (λ (x : Entities). x.sent) half_after) refl lane_then)
+        (λ k from below.
+        elim (was.owed k from (subst (λ (x : Entities). k < x.tx.next) (sym half_before) (subst (λ (x : Entities). k < x.tx.next) half_after below))) [ inl got ↦ inl got | inr under ↦ inr (flying b d k under) ])
+        (λ num.
+        ap (λ xs. xs ++ flat_map (tag_of (leg d) b.id b.g num) (sends entry.lines)) (was.numbers num ∙ ap (λ (x : Entities). listed (slice_get x.sent num)) half_before)
+        ∙ resent_tags h b d e.sent e.tx.kept num (length e.sent) refl
+        ∙ ap (λ (x : Entities). listed (slice_get x.sent num)) (sym half_after))
+
+    -- so is every other
+    served_all : (b' : Established) (d' : Dir) → Contains (established t) b' → IsServed (t ++ entry ∷ []) after links' b' d'
+    served_all = each_bearer (established t) sound.tables.once b here d id named (λ x k. IsServed (t ++ entry ∷ []) after links' x k) served_here (λ b' d' at' apart.
+        let same : half b' (sender_table d' after) ≡ half b' (sender_table d' w.nodes) = half_apart b' d' apart in
+        served_still t w.nodes w.links b' d' entry after links' (sound.served b' d' at') (no_ups b' d' t entry (no_ups_here b' d')) (rx_still b' d')
+        (submits b' d') (confirming b' d') (λ num. tag_apart b' d' num apart)
+        (ap (λ (x : Entities). x.tx) same) (ap (λ (x : Entities). x.sent) same) (λ k way. inr (flying b' d' k way)))
+
+    -- ---- the PDUs
+
+    -- the flight of a payload that is kept
+    abbrev pdu_at : ℕ → ℕ × List ℕ → Flight
+    pdu_at k x = data_flight h b d (length e.sent + k) x.0 x.1
+
+    -- its promise holds
+    pdu : (k : ℕ) (x : ℕ × List ℕ) → slice_get e.tx.kept k ≡ Some x → IsPduOf h (t ++ entry ∷ []) after d (pdu_at k x)
+    pdu k x is =
+        let kept : IsKeptHere x = each_at IsKeptHere e.tx.kept k x kept_here is in
+        record {
+          bearer = b;
+          there = there_then t entry undrawn b here;
+          num = length e.sent + k;
+          count = x.0;
+          numbered = subst (λ (y : Entities). slice_get y.sent (length e.sent + k) ≡ Some (Some x.0)) (sym half_after)
+              (slice_get_right e.sent (counts_sent e.tx.kept) k (Some x.0) (counts_at e.tx.kept k x is));
+          payload = x.1;
+          good = kept.3;
+          submission = subst (λ xs. IsNumbered b.first xs (x.0, x.1)) (sym (submitted_same b d)) kept.0;
+          is = refl;
+        }
+
+    -- it protects its submission
+    protected : (k : ℕ) (x : ℕ × List ℕ) → slice_get e.tx.kept k ≡ Some x → ProtectsSubmission h (t ++ entry ∷ []) b d b.g (Some x.0) (data_pdu b.n (sn b.n x.0) (ciphered h b.id d x.0 x.1))
+    protected k x is =
+        let kept : IsKeptHere x = each_at IsKeptHere e.tx.kept k x kept_here is in
+        record {
+          count = x.0;
+          tagged = refl;
+          counted = kept.0.counted;
+          sdu = x.1;
+          submission = ap (λ xs. slice_get xs (x.0 - b.first)) (submitted_same b d) ∙ kept.0.payload;
+          key = master_key 0;
+          keyed = ap (key_in b.g b.id) (plans_same t entry undrawn) ∙ sound.tables.keyed b here;
+          spelled = refl;
+        }
+
+    -- and is of no other bearer
+    protects_all : (b' : Established) (d' : Dir) → Contains (established (t ++ entry ∷ [])) b' → Protects h b' d' t entry
+    protects_all b' d' at' = (
+      (λ is. absurd is),
+      each_resent h b d (λ s. IsDataFlight (t ++ entry ∷ []) b' d' s → IsProtected h (t ++ entry ∷ []) b' d' s) (length e.sent) e.tx.kept (λ k x kept is.
+          let same : b' ≡ b = the_bearer b' (there_before t entry undrawn b' at') (sym is.1 ∙ named) in
+          let dir : d' ≡ d = sym (sym (direction_leg d) ∙ is.3) in
+          let spelled : List ℕ = data_pdu b.n (sn b.n x.0) (ciphered h b.id d x.0 x.1) in
+          subst (λ k. ProtectsSubmission h (t ++ entry ∷ []) b' k b.g (Some x.0) spelled) (sym dir)
+          (subst (λ y. ProtectsSubmission h (t ++ entry ∷ []) y d b.g (Some x.0) spelled) (sym same) (protected k x kept))),
+    )
+
+    -- it is sent again for the recovery
+    again : MakesRecover t entry d id → (k : ℕ) (x : ℕ × List ℕ) → slice_get e.tx.kept k ≡ Some x → SentAgain t entry (leg d) b.id b.g (Some x.0)
+    again recovers k x is =
+        let kept : IsKeptHere x = each_at IsKeptHere e.tx.kept k x kept_here is in
+        let counted : e.tx.next ≡ b.first + length (submitted b d t) = lane.counted in
+        let below : x.0 < b.first + length (submitted b d t) = subst (λ n. x.0 < n) counted kept.1 in
+        record {
+          recovers = subst (λ k. MakesRecover t entry k b.id) (sym (direction_leg d)) (subst (MakesRecover t entry d) (sym named) recovers);
+          bearer = b;
+          of_bearer = record { latest_is = sound.tables.once b here; of_generation = is_generation_once t b sound.tables.once here };
+          count = x.0;
+          tagged = refl;
+          from = kept.0.counted;
+          below = subst (λ k. x.0 < b.first + length (submitted b k t)) (sym (direction_leg d)) below;
+          unconfirmed = subst (λ k. is_confirmed (confirmed b k t) x.0 ≡ false) (sym (direction_leg d)) kept.2;
+        }
+
+    -- the record has its reason, and so have they
+    licence : MakesRecover t entry d id → IsReason h t entry (l, flight.Ctl r) → IsLicensed h t entry
+    licence recovers reason = record {
+      reasons = (reason, each_resent h b d (IsReason h t entry) (length e.sent) e.tx.kept (λ k x kept. inl (is_data_flight h d b x.0 x.1, inr (again recovers k x kept))));
+      ascends = resent_ascend h b d 0 b.first e.tx.next (length e.sent) e.tx.kept (omega arith) lane.rises;
+      one = let one : count_by is_uncounted (sends entry.lines) ≡ 1 = resent_counted h b d (length e.sent) 1 e.tx.kept in omega arith;
+    }
+
+    -- under a generation that was drawn
+    none_sent : NoneSent (t ++ entry ∷ [])
+    none_sent k i g num later =
+        let before : generation t < g = subst (λ n. n < g) (generation_same t entry undrawn) later in
+        let drawn : b.g ≤ generation t = established_drawn t b here in
+        let unlike : (b.g == g) ≡ false = ne_eqb b.g g (λ is. omega arith) in
+        tags_sent-next k i g num t entry ∙ ap (λ xs. xs ++ flat_map (tag_of k i g num) (sends entry.lines)) (sound.none_sent k i g num before)
+        ∙ resent_untagged h b d k i g num (length e.sent) (inr (inr unlike)) e.tx.kept
+
+    -- ---- the tables
+
+    -- the terminal has the same bearers
+    set_same : (k : ℕ) → is_set k (t ++ entry ∷ []) ≡ is_set k t
+    set_same k = is_set-next k t entry ∙ resent_sets h b d k (is_set k t) (length e.sent) e.tx.kept
+
+    -- the nodes follow the transcript
+    pub resending_tables : opens (generation t + 1) (open_command t) event answer.Ok ≡ busy → IsTabled (t ++ entry ∷ []) after
+    resending_tables opened =
+        let tables = sound.tables in
+        let stand : established (t ++ entry ∷ []) ≡ established t = established_same t entry undrawn in
+        record {
+          master_long = keeps.master_long ∙ tables.master_long;
+          terminal_long = keeps.terminal_long ∙ tables.terminal_long;
+          master_is = λ k. keeps.bearers Dl k ∙ tables.master_is k ∙ ap (latest k) (sym stand);
+          terminal_is = λ k. keeps.bearers Ul k ∙ tables.terminal_is k
+              ∙ sym (ap (λ x. if x then latest k (established (t ++ entry ∷ [])) else None) (set_same k) ∙ ap (λ bs. if is_set k t then latest k bs else None) stand);
+          set_is = λ k. set_same k ∙ tables.set_is k ∙ sym (is_some_map (bearer_in w.nodes.terminal k)) ∙ ap (λ o. is_some o) (sym (keeps.bearers Ul k)) ∙ is_some_map (bearer_in after.terminal k);
+          drawn_is = keeps.drawn ∙ tables.drawn_is ∙ sym (generation_same t entry undrawn);
+          busy_is = sym (open_command-next t entry ∙ resent_ends h b d (opens (generation t + 1) (open_command t) event answer.Ok) (length e.sent) e.tx.kept ∙ opened);
+          once = subst IsOnce (sym stand) tables.once;
+          ranged = λ c is. tables.ranged c (there_before t entry undrawn c is);
+          keyed = λ c is. ap (key_in c.g c.id) (plans_same t entry undrawn) ∙ tables.keyed c (there_before t entry undrawn c is);
+        }
+
+    -- ---- all that it owes
+
+    -- with the command that is open then, the phase, and what is so of the record
+    pub resending_happened : opens (generation t + 1) (open_command t) event answer.Ok ≡ busy → Phase h (t ++ entry ∷ []) after links'
+        → PromiseOf h (t ++ entry ∷ []) after (l, flight.Ctl r) → MakesRecover t entry d id → IsReason h t entry (l, flight.Ctl r) → HasCause policies t entry → Happened h policies t w entry after
+    resending_happened opened phase promise recovers reason cause = record {
+      tables = resending_tables opened;
+      phase = phase;
+      served = λ b' d' at'. served_all b' d' (there_before t entry undrawn b' at');
+      grows = grows_same t entry w.nodes after (there_then t entry undrawn) (λ b' d' at'. rx_still b' d') numbers_still;
+      sent = (promise, each_resent h b d (PromiseOf h (t ++ entry ∷ []) after) (length e.sent) e.tx.kept (λ k x kept. promised h (t ++ entry ∷ []) after d (pdu_at k x) (pdu k x kept)));
+      none_sent = none_sent;
+      protects = protects_all;
+      carried = λ b' d' at'. none_carried b' d' t entry (no_ups b' d' t entry (no_ups_here b' d'));
+      freed = λ b' d' at'. no_frees b' d' t entry (no_frees_here b' d') ∙ no_move _ _ (low_still b' d' (there_before t entry undrawn b' at'));
+      fresh_before = λ b' at'. inl (there_before t entry undrawn b' at');
+      cause = cause;
+      licence = licence recovers reason;
+    }
