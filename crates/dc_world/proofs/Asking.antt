@@ -1,5 +1,5 @@
 -- A status report is asked for: the node sends one of what it received.
-use Rattle.std.proofs.Common.{ℕ, zero, suc, ◌≡◌, ◌+◌, ◌^◌, ◌<◌, ◌==◌, ◌||◌, ◌++◌, List, [], ◌∷◌, Option, Some, None, true, false, length, slice_get, get_or, Ok, refl, sym, ap, ◌∙◌, subst, arith, inl, inr}
+use Rattle.std.proofs.Common.{ℕ, zero, suc, ◌≡◌, ◌+◌, ◌^◌, ◌<◌, ◌==◌, ◌||◌, ◌++◌, List, [], ◌∷◌, Option, Some, None, true, false, length, slice_get, get_or, refl, sym, ap, ◌∙◌, subst, arith, inl, inr}
 use Rattle.std.specs.Prelude.{Contains, nat_lt, ◌&&◌}
 use Rattle.std.specs.List.{AllByRecursion, flat_map}
 use Rattle.std.proofs.lemmas.List.{append-nil}
@@ -13,8 +13,7 @@ use Rattle.dc_base.specs.declared.answers.Answer.TheVariants as answer
 use Rattle.dc_base.specs.declared.events.Header.{Header}
 use Rattle.dc_base.specs.declared.events.Event.TheVariants.{Report}
 use Rattle.dc_base.specs.declared.events.Line.TheVariants as line
-use Rattle.pdcp_pdu.specs.Bitmap.{names, is_among}
-use Rattle.pdcp_pdu.specs.Pdu.{report}
+use Rattle.pdcp_pdu.specs.Bitmap.{is_among}
 use Rattle.pdcp_pdu.specs.StatusReport.{report_pdu, sent_bits, sent_set}
 use Rattle.pdcp_pdu.proofs.Ascending.{Ascending}
 use Rattle.pdcp_pdu.proofs.Reports.{sent_names, sent_again}

@@ -1,5 +1,5 @@
 -- From what an event owes to all that is kept.
-use Rattle.std.proofs.Common.{ℕ, ◌≡◌, ◌+◌, ◌-◌, ◌++◌, length, take, drop, List, [], ◌∷◌, Option, Some, None, sym, ap, ◌∙◌, subst, inl, inr, ◌⊎◌}
+use Rattle.std.proofs.Common.{ℕ, ◌≡◌, ◌+◌, ◌-◌, ◌++◌, length, take, drop, List, [], ◌∷◌, Option, Some, None, sym, ap, ◌∙◌, subst, inl, inr}
 use Rattle.std.specs.Prelude.{if◌then◌else◌, nat_lt, Contains, remove}
 use Rattle.std.specs.List.{AllByRecursion, flat_map}
 use Rattle.dc_base.specs.declared.nodes.Dir.{Dir}

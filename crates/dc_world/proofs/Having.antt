@@ -1,12 +1,12 @@
 -- Both ends of a leg on which something was sent have its bearer.
-use Rattle.std.proofs.Common.{ℕ, ◌≡◌, ◌-◌, List, [], Option, Some, None, slice_get, refl, sym, ap, ◌∙◌, subst}
+use Rattle.std.proofs.Common.{ℕ, ◌≡◌, List, [], Option, Some, None, slice_get, refl, sym, ap, ◌∙◌, subst}
 use Rattle.std.specs.Prelude.{Contains}
 use Rattle.std.proofs.lemmas.Option.{none-some}
 use Rattle.dc_base.specs.declared.nodes.Dir.{Dir}
 use Rattle.dc_base.specs.declared.nodes.Dir.TheVariants.{Ul, Dl}
 use Rattle.dc_base.specs.declared.events.Header.{Header}
 use Rattle.transcript.specs.Transcript.{Entry}
-use Rattle.transcript.specs.Bearers.{Established, established, submitted}
+use Rattle.transcript.specs.Bearers.{Established, established}
 use Rattle.dc_world.specs.Entities.{Entities, bearer_in}
 use Rattle.dc_world.specs.Control.{Nodes}
 use Rattle.dc_world.specs.Links.{Links}

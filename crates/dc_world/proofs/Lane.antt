@@ -364,9 +364,10 @@ module _ (n : SnLen) (first : ℕ) (submitted : List (List ℕ)) (confirms : Lis
       let above : first ≤ e.0 = omega (arith, up.0) in
       let below : e.0 < tx.next = omega (arith, bounds.0, bounds.1) in
       let kept = sub e.0 (or_left (e.0 == e.0) (is_kept es e.0) (eq-eqb e.0 e.0 refl)) in
-      let free : is_confirmed confirms e.0 ≡ false = not-true (is_confirmed confirms e.0) (sym (lane.kept_are e.0 above below) ∙ kept) in
-      ((all.0, below, free, each_at IsPayload submitted (e.0 - first) e.1 lane.payloads all.0.payload),
-       each_kept (e.0 + 1) es (omega arith) up.1 all.1 (λ c k. sub c (or_right (e.0 == c) (is_kept es c) k)))
+      let free : is_confirmed confirms e.0 ≡ false = not-true (is_confirmed confirms e.0) (sym (lane.kept_are e.0 above below) ∙ kept) in (
+        (all.0, below, free, each_at IsPayload submitted (e.0 - first) e.1 lane.payloads all.0.payload),
+        each_kept (e.0 + 1) es (omega arith) up.1 all.1 (λ c k. sub c (or_right (e.0 == c) (is_kept es c) k)),
+      )
 
   -- what is kept was submitted, and is not confirmed
   pub kept_unconfirmed : AllByRecursion (λ (e : ℕ × List ℕ). IsNumbered first submitted e × (e.0 < tx.next) × (is_confirmed confirms e.0 ≡ false) × IsPayload e.1) tx.kept

@@ -20,7 +20,7 @@ use Rattle.dc_base.specs.declared.events.Line.TheVariants as line
 use Rattle.pdcp_pdu.specs.DataPdu.{IsPayload, data_pdu}
 use Rattle.pdcp_tx.specs.Sender.{low, Rises}
 use Rattle.transcript.specs.Transcript.{Entry, sends}
-use Rattle.transcript.specs.Content.{is_same_link, direction, put_on, place_taken, without_taken}
+use Rattle.transcript.specs.Content.{is_same_link, put_on, place_taken, without_taken}
 use Rattle.transcript.specs.Bearers.{OpenCommand, Established, established, latest, generation, submission, submitted, confirms, confirmed, is_confirmed, up_of, freed_of, tag_of, opens, ends_command, open_command, has_after, is_set, key_in, master_key}
 use Rattle.transcript.specs.Claims.{Protects, ProtectsSubmission, IsDataFlight, IsProtected, IsReason, IsLicensed, HasCause, MakesRecover, SentAgain, AscendsFrom, count_in, is_uncounted}
 use Rattle.dc_world.specs.Entities.{Entities, bearer_in}

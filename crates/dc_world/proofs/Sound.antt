@@ -1,7 +1,7 @@
 -- What every event keeps: of each bearer in each direction, of each flight, and of the whole run.
-use Rattle.std.proofs.Common.{ℕ, ◌≡◌, ◌+◌, ◌-◌, ◌^◌, ◌<◌, ◌≤◌, ◌⊎◌, ◌++◌, true, false, List, [], ◌∷◌, Option, Some, None, length, take, slice_get, refl, sym, ap, ◌∙◌, subst, arith, inl, inr}
+use Rattle.std.proofs.Common.{ℕ, ◌≡◌, ◌-◌, ◌^◌, ◌<◌, ◌≤◌, ◌⊎◌, ◌++◌, true, false, List, [], ◌∷◌, Option, Some, None, length, take, slice_get}
 use Rattle.std.specs.Prelude.{Ok, if◌then◌else◌, nat_lt, Contains, is_some}
-use Rattle.std.specs.List.{AllByRecursion, flat_map}
+use Rattle.std.specs.List.{AllByRecursion}
 use Rattle.std.specs.Option.{option_map}
 use Rattle.dc_base.specs.declared.nodes.Class.{Class}
 use Rattle.dc_base.specs.declared.nodes.Class.TheVariants.{Ctl, Air}
@@ -23,10 +23,9 @@ use Rattle.transcript.specs.Text.{is_data}
 use Rattle.pdcp_tx.specs.Sender.{low}
 use Rattle.pdcp_rx.specs.Receiver.{Received}
 use Rattle.transcript.specs.Transcript.{Entry, sends, Each, SomeEntry}
-use Rattle.transcript.specs.Content.{content, content_after, mt_ctl, tm_ctl, place_taken}
-use Rattle.transcript.specs.Bearers.{Established, change, recovery, established, latest, generation, plans, key_in, master_key, submitted, submission, handed, ups, numbered, confirmed, confirms, tag_of, tags_sent, frees, told, open_command, at_terminal, is_set, least_but}
-use Rattle.transcript.specs.Claims.{TakesData, KeepsAll, IsKept, Protects, Carried, HasCause, IsLicensed, NoStall}
-use Rattle.transcript.proofs.OnEach.{each_append, each_weaker}
+use Rattle.transcript.specs.Content.{content, mt_ctl, tm_ctl, place_taken}
+use Rattle.transcript.specs.Bearers.{Established, change, recovery, established, latest, generation, plans, key_in, master_key, submitted, handed, numbered, confirmed, tags_sent, frees, open_command, at_terminal, is_set}
+use Rattle.transcript.specs.Claims.{TakesData, KeepsAll, Protects, Carried, HasCause, IsLicensed, NoStall}
 use Rattle.transcript.proofs.Establishing.{IsOnce}
 use Rattle.dc_world.specs.Entities.{Entities, Table, fresh, bearer_in}
 use Rattle.dc_world.specs.Plane.{leg, other, data_flight}
