@@ -5,3 +5,5 @@ pub mod Control
 pub mod Links
 pub mod Run
 pub mod Serving
+pub mod Commands
+pub mod Recovering

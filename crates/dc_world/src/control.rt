@@ -3,7 +3,7 @@
 ghost use Rattle.std.specs.Prelude.{◌≡◌, ◌∷◌, [], IfOk};
 ghost use Rattle.dc_base.specs.declared.nodes.Node.TheVariants.{M};
 ghost use Rattle.dc_base.specs.declared.flights.Flight.TheVariants as flight;
-ghost use Rattle.dc_base.specs.declared.records.Rec.TheVariants.{Reconf, Rcomp};
+ghost use Rattle.dc_base.specs.declared.records.Rec.TheVariants.{Reconf, Rcomp, Recov, Recovd};
 ghost use Rattle.dc_base.specs.declared.events.Line.TheVariants as line;
 ghost use Rattle.dc_base.specs.declared.events.Note.TheVariants as note;
 ghost use Rattle.transcript.specs.Content.{mt_ctl, tm_ctl};
@@ -111,6 +111,20 @@ pub fn complete_line(g: Gen) -> Line
     ensures { result ≡ line.Send tm_ctl (flight.Ctl (Rcomp g)) }
 {
     Line::Send(tm_ctl(), Flight::Ctl(Rec::Rcomp { g }))
+}
+
+/// The line by which the master tells the terminal to recover a bearer.
+pub fn recover_line(id: DrbId) -> Line
+    ensures { result ≡ line.Send mt_ctl (flight.Ctl (Recov id)) }
+{
+    Line::Send(mt_ctl(), Flight::Ctl(Rec::Recov { id }))
+}
+
+/// The line by which the terminal tells that it recovered a bearer.
+pub fn recovered_line(id: DrbId) -> Line
+    ensures { result ≡ line.Send tm_ctl (flight.Ctl (Recovd id)) }
+{
+    Line::Send(tm_ctl(), Flight::Ctl(Rec::Recovd { id }))
 }
 
 /// The line by which the master tells that the open command ended.

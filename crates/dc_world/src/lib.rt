@@ -1,6 +1,7 @@
 //! The nodes and the links between them, and a run of them, one event at a time.
 #![tactic(auto)]
 
+mod busy;
 mod ciphering;
 mod control;
 mod counted;

@@ -176,6 +176,8 @@ impl Network {
                 };
                 self.nodes.command(&self.ciphering, policies, &new)
             }
+            Event::Recover { id } => self.nodes.recover(&self.ciphering, *id),
+            Event::Report { node, id } => self.nodes.report(self.ciphering.alloc(), *node, *id),
             Event::Submit { id, dir, sdu } => self.nodes.submit(&self.ciphering, *id, *dir, sdu),
             Event::Step { link, index } => self.step(*link, *index),
             Event::Lose { link, index } => Ok(self.lose(*link, *index)),

@@ -4,26 +4,29 @@ ghost use Rattle.std.specs.Prelude.{◌≡◌, ◌+◌, ◌-◌, ◌<◌, ◌≤
 ghost use Rattle.pdcp_pdu.specs.DataPdu.{IsPayload};
 ghost use Rattle.dc_world.specs.Entities.{bearer_in};
 ghost use Rattle.dc_world.specs.Plane.{is_aged};
-ghost use Rattle.dc_world.specs.Control.{new_nodes, commanded, set_up, told_terminal, told_master, is_open};
+ghost use Rattle.dc_world.specs.Control.{new_nodes, commanded, set_up, unless_open, recovery_commanded, recovers_there, told_terminal, ends, told_master};
 ghost use Rattle.dc_world.specs.Serving.{serves};
-ghost use Rattle.dc_world.specs.Run.{unless_open, submission, table_at, taken_from};
+ghost use Rattle.dc_world.specs.Run.{submission, report_of, table_at, taken_from};
 
+use crate::busy::Busy;
 use crate::ciphering::Ciphering;
-use crate::control::{NewBearer, complete_line, done_lines, is_mm, set_up_lines};
+use crate::control::{
+    NewBearer, complete_line, done_lines, is_mm, recover_line, recovered_line, set_up_lines,
+};
 use crate::entities::PdcpEntities;
 use crate::plane::{Outcome, refused};
 use crate::table::Bearers;
 use dc_base::{
-    Answer, Class, Dir, DrbId, Flight, Gen, Line, LinkId, Memory, Node, Octets, Rec, Refusal, Seq,
+    Answer, Class, Dir, DrbId, Flight, Line, LinkId, Memory, Node, Octets, Rec, Refusal, Seq,
 };
 use std::alloc::Global;
 use std::marker::Model;
 
-/// The master and the terminal: the last generation drawn, the one whose command is open, and the bearers of each node.
+/// The master and the terminal: the last generation drawn, the command that is open, and the bearers of each node.
 #[derive(Drop)]
 pub struct NodePair {
     drawn: u32,
-    busy: Option<Gen>,
+    busy: Busy,
     master: Bearers,
     terminal: Bearers,
 }
@@ -43,7 +46,7 @@ impl NodePair {
     {
         Ok(NodePair {
             drawn: 0,
-            busy: None,
+            busy: Busy::none(),
             master: Bearers::new(alloc)?,
             terminal: Bearers::new(alloc)?,
         })
@@ -56,22 +59,12 @@ impl NodePair {
         self.busy.is_some()
     }
 
-    // Whether this generation's command is open.
-    fn is_open(&self, g: Gen) -> bool
-        ensures { result ≡ is_open self.now.busy g }
-    {
-        match self.busy {
-            Some(opening) => opening == g,
-            None => false,
-        }
-    }
-
     // Whether the master has the bearer, and its command is not open.
     fn master_serves(&self, id: DrbId) -> bool
         ensures { result ≡ is_some (unless_open self.now.busy (bearer_in self.now.master id)) }
     {
         match self.master.generation(id) {
-            Some(g) => !self.is_open(g),
+            Some(g) => !self.busy.is_change(g),
             None => false,
         }
     }
@@ -87,7 +80,7 @@ impl NodePair {
         let entities = PdcpEntities::new(ciphering.alloc(), g, new.id, new.n, new.first);
         self.master.set(new.id, Some(entities));
         self.drawn = g;
-        self.busy = Some(g);
+        self.busy = Busy::change(g);
         Ok((Answer::Ok, lines))
     }
 
@@ -115,6 +108,38 @@ impl NodePair {
             return Ok(refused(ciphering.alloc(), Refusal::NoPolicy));
         }
         self.set_up(ciphering, new)
+    }
+
+    /// A recovery is commanded, and the master recovers its own side at once. After `Memory` the nodes are not used again.
+    pub fn recover(&mut self, ciphering: &Ciphering, id: DrbId) -> Result<Outcome, Memory>
+        ensures drawn { self.new.drawn ≡ self.old.drawn }
+        ensures value { IfOk result (λ outcome. (self.new, outcome) ≡ recovery_commanded ciphering.now self.old id) }
+    {
+        if self.is_busy() {
+            return Ok(refused(ciphering.alloc(), Refusal::Busy));
+        }
+        let found = self
+            .master
+            .recover(ciphering, Dir::Dl, id, recover_line(id))?;
+        match found {
+            Some(lines) => {
+                self.busy = Busy::recovery(id);
+                Ok((Answer::Ok, lines))
+            }
+            None => Ok(refused(ciphering.alloc(), Refusal::NoBearer)),
+        }
+    }
+
+    /// A status report is asked of a node. After `Memory` the nodes are not used again.
+    pub fn report(&mut self, alloc: Global, node: Node, id: DrbId) -> Result<Outcome, Memory>
+        ensures drawn { self.new.drawn ≡ self.old.drawn }
+        ensures value { IfOk result (λ outcome. (self.new, outcome) ≡ report_of self.old node id) }
+    {
+        match node {
+            Node::T => self.terminal.report(alloc, Dir::Ul, id),
+            Node::M if self.master_serves(id) => self.master.report(alloc, Dir::Dl, id),
+            Node::M | Node::A | Node::B => Ok(refused(alloc, Refusal::NoBearer)),
+        }
     }
 
     /// A payload of 1 to 9000 octets is submitted: in downlink at the master, in uplink at the terminal. After `Memory`
@@ -163,11 +188,26 @@ impl NodePair {
         }
     }
 
-    // The terminal takes a record from the master. After `Memory` the nodes are not used again.
-    fn tell_terminal(&mut self, alloc: Global, flight: &Flight) -> Result<Seq<Line>, Memory>
+    // The terminal recovers a bearer, if it has it, and says so. After `Memory` the nodes are not used again.
+    fn recover_there(&mut self, ciphering: &Ciphering, id: DrbId) -> Result<Seq<Line>, Memory>
         ensures drawn { self.new.drawn ≡ self.old.drawn }
-        ensures value { IfOk result (λ lines. (self.new, lines) ≡ told_terminal self.old flight.now) }
+        ensures value { IfOk result (λ lines. (self.new, lines) ≡ recovers_there ciphering.now self.old id (bearer_in self.old.terminal id)) }
     {
+        let found = self
+            .terminal
+            .recover(ciphering, Dir::Ul, id, recovered_line(id))?;
+        match found {
+            Some(lines) => Ok(lines),
+            None => Ok(Seq::new(ciphering.alloc())),
+        }
+    }
+
+    // The terminal takes a record from the master. After `Memory` the nodes are not used again.
+    fn tell_terminal(&mut self, ciphering: &Ciphering, flight: &Flight) -> Result<Seq<Line>, Memory>
+        ensures drawn { self.new.drawn ≡ self.old.drawn }
+        ensures value { IfOk result (λ lines. (self.new, lines) ≡ told_terminal ciphering.now self.old flight.now) }
+    {
+        let alloc = ciphering.alloc();
         match flight {
             Flight::Ctl(Rec::Reconf { plan, .. }) => {
                 let mut lines = self
@@ -176,8 +216,21 @@ impl NodePair {
                 lines.push(complete_line(plan.g))?;
                 Ok(lines)
             }
+            Flight::Ctl(Rec::Recov { id }) => self.recover_there(ciphering, *id),
             _ => Ok(Seq::new(alloc)),
         }
+    }
+
+    // The command ends, if it is the one that is open. After `Memory` the nodes are not used again.
+    fn end(&mut self, alloc: Global, is_open: bool) -> Result<Seq<Line>, Memory>
+        ensures drawn { self.new.drawn ≡ self.old.drawn }
+        ensures value { IfOk result (λ lines. (self.new, lines) ≡ ends self.old is_open) }
+    {
+        if !is_open {
+            return Ok(Seq::new(alloc));
+        }
+        self.busy = Busy::none();
+        done_lines(alloc)
     }
 
     // The master takes a record from the terminal. After `Memory` the nodes are not used again.
@@ -187,11 +240,12 @@ impl NodePair {
     {
         match flight {
             Flight::Ctl(Rec::Rcomp { g }) => {
-                if !self.is_open(*g) {
-                    return Ok(Seq::new(alloc));
-                }
-                self.busy = None;
-                done_lines(alloc)
+                let is_open = self.busy.is_change(*g);
+                self.end(alloc, is_open)
+            }
+            Flight::Ctl(Rec::Recovd { id }) => {
+                let is_open = self.busy.is_recovery(*id);
+                self.end(alloc, is_open)
             }
             _ => Ok(Seq::new(alloc)),
         }
@@ -208,7 +262,7 @@ impl NodePair {
         ensures value { IfOk result (λ lines. (self.new, lines) ≡ taken_from ciphering.now self.old link.from link.to link.class flight.now) }
     {
         match (link.from, link.to, link.class) {
-            (Node::M, Node::T, Class::Ctl) => self.tell_terminal(ciphering.alloc(), flight),
+            (Node::M, Node::T, Class::Ctl) => self.tell_terminal(ciphering, flight),
             (Node::T, Node::M, Class::Ctl) => self.tell_master(ciphering.alloc(), flight),
             (Node::M, Node::T, Class::Air) => self.terminal.take_air(ciphering, Dir::Dl, flight),
             (Node::T, Node::M, Class::Air) => self.master.take_air(ciphering, Dir::Ul, flight),

@@ -79,15 +79,21 @@ pub fn up_lines(
     Ok(lines)
 }
 
-/// The line that tells where the window begins, if that is further than before.
-pub fn freed_lines(alloc: Global, id: DrbId, before: u32, after: u32) -> Result<Seq<Line>, Memory>
-    ensures { IfOk result (λ lines. lines ≡ freed_lines id before after) }
+/// The line that tells where the window of a direction begins, if that is further than before.
+pub fn freed_lines(
+    alloc: Global,
+    id: DrbId,
+    dir: Dir,
+    before: u32,
+    after: u32,
+) -> Result<Seq<Line>, Memory>
+    ensures { IfOk result (λ lines. lines ≡ freed_lines id dir before after) }
 {
     let mut lines = Seq::new(alloc);
     if before < after {
         lines.push(Line::Note(Note::Freed {
             id,
-            dir: Dir::Dl,
+            dir,
             count: after,
         }))?;
     }

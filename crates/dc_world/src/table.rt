@@ -6,11 +6,13 @@ ghost use Rattle.pdcp_pdu.specs.DataPdu.{IsPayload};
 ghost use Rattle.dc_world.specs.Entities.{no_bearers, bearer_in, with_bearer};
 ghost use Rattle.dc_world.specs.Plane.{submitted, taken_for, air_taken, is_behind, is_aged};
 ghost use Rattle.dc_world.specs.Control.{item_taken};
+ghost use Rattle.dc_world.specs.Recovering.{recovered_in};
+ghost use Rattle.dc_world.specs.Run.{reported_by};
 
 use crate::ciphering::Ciphering;
 use crate::entities::PdcpEntities;
 use crate::plane::{Outcome, identity_of, is_data, refused};
-use dc_base::{Dir, DrbId, Flight, Gen, Item, Line, Memory, Note, Octets, Refusal, Seq};
+use dc_base::{Answer, Dir, DrbId, Flight, Gen, Item, Line, Memory, Note, Octets, Refusal, Seq};
 use std::alloc::Global;
 use std::marker::Model;
 
@@ -106,6 +108,41 @@ impl Bearers {
         match &mut self.slots[id.get() as usize] {
             Some(entities) => entities.submit(ciphering, dir, sdu),
             None => Ok(refused(ciphering.alloc(), Refusal::NoBearer)),
+        }
+    }
+
+    /// The receiving entity of a bearer has a status report sent. After `Memory` the table is not used again.
+    pub fn report(&mut self, alloc: Global, dir: Dir, id: DrbId) -> Result<Outcome, Memory>
+        ensures { IfOk result (λ outcome. (self.new, outcome) ≡ reported_by dir self.old id (bearer_in self.old id)) }
+    {
+        match &mut self.slots[id.get() as usize] {
+            Some(entities) => {
+                let lines = entities.report(alloc, dir)?;
+                Ok((Answer::Ok, lines))
+            }
+            None => Ok(refused(alloc, Refusal::NoBearer)),
+        }
+    }
+
+    /// A bearer recovers: this line comes first, and then the PDUs that are sent again. `None` where there is no bearer.
+    /// After `Memory` the table is not used again.
+    pub fn recover(
+        &mut self,
+        ciphering: &Ciphering,
+        dir: Dir,
+        id: DrbId,
+        first: Line,
+    ) -> Result<Option<Seq<Line>>, Memory>
+        ensures { IfOk result (λ found. (self.new, found) ≡ recovered_in ciphering.now dir self.old id first (bearer_in self.old id)) }
+    {
+        match &mut self.slots[id.get() as usize] {
+            Some(entities) => {
+                let mut lines = Seq::new(ciphering.alloc());
+                lines.push(first)?;
+                entities.recover(ciphering, dir, &mut lines)?;
+                Ok(Some(lines))
+            }
+            None => Ok(None),
         }
     }
 

@@ -2,7 +2,7 @@ ghost use Rattle.dc_world.specs.Run.{IsGood};
 
 use super::{Counts, World, is_built};
 use dc_base::{
-    Alg, Answer, Class, Dir, DrbId, Event, Flight, LegSet, Line, LinkId, Node, Note, Octets,
+    Alg, Answer, Class, Dir, DrbId, Event, Flight, LegSet, Line, LinkId, Node, Note, Octets, Rec,
     Refusal, Shape, SnLen,
 };
 use std::alloc::Global;
@@ -193,5 +193,138 @@ fn payloads_in_the_wrong_order(rt: HostRuntime) -> Result<(), Fail> {
     assert_eq!(rt; world.counts(), counts);
     // Each event with its answer, five lines that set the bearer up, and seven of the payloads.
     assert_eq!(rt; world.into_lines().len(), 20 + 5 + 7);
+    Ok(())
+}
+
+/// A line that is wanted of bearer 1 in its first generation.
+#[derive(Clone, Copy)]
+enum Want<'a> {
+    Up(Node, Dir, u32, &'a [u8]),
+    Freed(Dir, u32),
+    Done,
+    Pdu(LinkId, u32, Option<u32>, &'a [u8]),
+    Ack(LinkId, u32),
+    Recov,
+    Recovd,
+}
+
+fn is_wanted(line: &Line, want: Want<'_>) -> bool {
+    match (line, want) {
+        (
+            Line::Note(
+                Note::Up {
+                    node,
+                    dir,
+                    count,
+                    sdu,
+                    ..
+                },
+            ),
+            Want::Up(at, up, number, octets),
+        ) => *node == at && *dir == up && *count == number && sdu.as_slice() == octets,
+        (Line::Note(Note::Freed { dir, count, .. }), Want::Freed(at, low)) => {
+            *dir == at && *count == low
+        }
+        (Line::Note(Note::Done), Want::Done) => true,
+        (Line::Send(link, flight), want) => is_flight(*link, flight, want),
+        _ => false,
+    }
+}
+
+fn is_flight(link: LinkId, flight: &Flight, want: Want<'_>) -> bool {
+    match (flight, want) {
+        (
+            Flight::Air {
+                g,
+                num,
+                tag,
+                pdu,
+                ..
+            },
+            Want::Pdu(leg, number, count, octets),
+        ) => {
+            link == leg
+                && *g == 1
+                && *num == number
+                && tag.get() == count
+                && pdu.as_slice() == octets
+        }
+        (Flight::Ack { g, num, .. }, Want::Ack(leg, number)) => {
+            link == leg && *g == 1 && *num == number
+        }
+        (Flight::Ctl(Rec::Recov { .. }), Want::Recov) => link == mt(Class::Ctl),
+        (Flight::Ctl(Rec::Recovd { .. }), Want::Recovd) => link == tm(Class::Ctl),
+        _ => false,
+    }
+}
+
+/// How many of these lines the world has, in this order, with others between them.
+fn found(world: &World, wants: &[Want<'_>]) -> usize {
+    let mut number = 0;
+    for line in world.lines().as_slice() {
+        if number < wants.len() && is_wanted(line, wants[number]) {
+            number += 1;
+        }
+    }
+    number
+}
+
+/// Steps at the first link on which a flight stands, until none does.
+fn drains(world: &mut World) -> Result<(), Fail> {
+    for _ in 0..100u32 {
+        let Some(link) = world.first_nonempty() else {
+            return Ok(());
+        };
+        steps(world, link, 0)?;
+    }
+    Err("does not end".into())
+}
+
+#[test]
+fn a_recovery_sends_again_what_is_kept(rt: HostRuntime) -> Result<(), Fail> {
+    let alloc = rt.alloc();
+    let id = DrbId::new(1).ok_or("identity")?;
+    let mut world = commanded(alloc, id, &[(mt(Class::Ctl), 0), (tm(Class::Ctl), 0)])?;
+    submits(alloc, &mut world, id, Dir::Dl, &[0xaa])?;
+    submits(alloc, &mut world, id, Dir::Dl, &[0xbb])?;
+    steps(&mut world, mt(Class::Air), 0)?;
+    happens(&mut world, &Event::Recover { id })?;
+    drains(&mut world)?;
+    let (down, up) = (mt(Class::Air), tm(Class::Air));
+    let wants = [
+        Want::Up(Node::T, Dir::Dl, 0, &[0xaa]),
+        Want::Recov,
+        Want::Pdu(down, 2, Some(0), &[0x80, 0x00, 0xaa]),
+        Want::Pdu(down, 3, Some(1), &[0x80, 0x01, 0xbb]),
+        Want::Recovd,
+        Want::Done,
+        Want::Up(Node::T, Dir::Dl, 1, &[0xbb]),
+        Want::Ack(up, 2),
+        Want::Freed(Dir::Dl, 1),
+        Want::Freed(Dir::Dl, 2),
+    ];
+    assert_eq!(rt; found(&world, &wants), 10);
+    Ok(())
+}
+
+#[test]
+fn a_report_confirms_uplink(rt: HostRuntime) -> Result<(), Fail> {
+    let alloc = rt.alloc();
+    let id = DrbId::new(1).ok_or("identity")?;
+    let mut world = commanded(alloc, id, &[(mt(Class::Ctl), 0), (tm(Class::Ctl), 0)])?;
+    submits(alloc, &mut world, id, Dir::Ul, &[0xaa])?;
+    drains(&mut world)?;
+    happens(&mut world, &Event::Report { node: Node::M, id })?;
+    drains(&mut world)?;
+    let (down, up) = (mt(Class::Air), tm(Class::Air));
+    let wants = [
+        Want::Pdu(up, 0, Some(0), &[0x80, 0x00, 0xaa]),
+        Want::Up(Node::M, Dir::Ul, 0, &[0xaa]),
+        Want::Ack(down, 0),
+        Want::Pdu(down, 0, None, &[0, 0, 0, 0, 1]),
+        Want::Freed(Dir::Ul, 1),
+        Want::Ack(up, 0),
+    ];
+    assert_eq!(rt; found(&world, &wants), 6);
     Ok(())
 }

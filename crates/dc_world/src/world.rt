@@ -37,6 +37,8 @@ pub fn is_built(event: &Event) -> bool
 {
     match event {
         Event::Bearer { .. }
+        | Event::Recover { .. }
+        | Event::Report { .. }
         | Event::Submit { .. }
         | Event::Step { .. }
         | Event::Lose { .. }
