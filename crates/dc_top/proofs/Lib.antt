@@ -1,13 +1,1 @@
-pub mod Combining
-pub mod Lane
-pub mod Books
-pub mod Claiming
-pub mod Traffic
-pub mod Refusals
-pub mod Deliveries
-pub mod Opened
-pub mod Faithful
-pub mod Texts
-pub mod Gathering
-pub mod Progress
 pub mod Forms
