@@ -1,6 +1,15 @@
 //! The nodes and the links between them, and a run of them, one event at a time.
 #![tactic(auto)]
 
+mod ciphering;
+mod control;
+mod counted;
+mod entities;
+mod links;
+mod nodes;
+mod plane;
+mod table;
 mod world;
 
-pub use world::{Counts, World, is_built};
+pub use counted::Counts;
+pub use world::{World, is_built};

@@ -1,39 +1,34 @@
 //! The world: one event after another, and all lines since its start.
 
 ghost use Rattle.std.specs.Prelude.{◌≡◌, [], true, IfOk, OnOk, nat_lt, length, slice_get, is_some};
+ghost use Rattle.std.specs.Option.{option_copied};
 ghost use Rattle.dc_world.specs.Entities.{bearer_in};
 ghost use Rattle.dc_world.specs.Links.{on, first_nonempty};
 ghost use Rattle.dc_world.specs.Run.{new_world, is_built, IsGood, IsWithin, counted, kept_after};
 
-use dc_base::{Alg, Event, Flight, Header, Line, LinkId, Memory, Seq};
+use crate::ciphering::Ciphering;
+use crate::counted::{CountedLines, Counts};
+use crate::links::LinkSet;
+use crate::nodes::NodePair;
+use dc_base::{Alg, DrbId, Event, Flight, Line, LinkId, Memory, Node, Seq};
 use std::alloc::Global;
 use std::marker::Model;
-
-/// How many events, flights and octets of flights a world has had.
-#[derive(Clone, Copy, Debug, PartialEq, Eq)]
-pub struct Counts {
-    pub events: u64,
-    pub flights: u64,
-    /// The octets of PDUs, packets and payloads, as sent.
-    pub octets: u64,
-}
 
 /// The nodes and the links between them, and all lines since the start.
 #[derive(Drop)]
 pub struct World {
-    header: Header,
-    lines: Seq<Line>,
+    ciphering: Ciphering,
+    nodes: NodePair,
+    links: LinkSet,
+    lines: CountedLines,
 }
 
 impl Model for World {
-    ghost use Rattle.std.specs.Prelude.{◌≡◌, []};
-    ghost use Rattle.dc_world.specs.Run.{Kept, new_world};
+    ghost use Rattle.dc_world.specs.Run.{Kept};
 
     ghost Value = { Kept };
 
-    ghost view = { λ a. record { state = new_world a.header; lines = a.lines } };
-
-    ghost invariant = { λ a. a.lines ≡ [] };
+    ghost view = { λ a. record { state = record { header = a.ciphering; nodes = a.nodes; links = a.links }; lines = a.lines } };
 }
 
 /// Whether a world takes the event so far.
@@ -56,7 +51,12 @@ impl World {
     pub fn new(alloc: Global, alg: Alg, used: u32, root: &[u8; 32]) -> Result<World, Memory>
         ensures { IfOk result (λ w. w ≡ record { state = new_world (record { alg = alg; used = used; root = root.now }); lines = [] }) }
     {
-        Err(Memory)
+        Ok(World {
+            ciphering: Ciphering::new(alloc, alg, used, root),
+            nodes: NodePair::new(alloc)?,
+            links: LinkSet::new(alloc)?,
+            lines: CountedLines::new(alloc),
+        })
     }
 
     /// One event, where there are so many policies: the event, its answer and the lines after it are added to the lines.
@@ -74,32 +74,41 @@ impl World {
     pub fn lines(&self) -> &Seq<Line>
         ensures { result.now ≡ self.now.lines }
     {
-        &self.lines
+        self.lines.lines()
     }
 
     /// The lines, handed out.
     pub fn into_lines(self) -> Seq<Line>
         ensures { result ≡ self.lines }
     {
-        self.lines
+        self.lines.into_lines()
     }
 
     /// The first link, in their order, on which a flight stands: `None` where all are empty.
     pub fn first_nonempty(&self) -> Option<LinkId>
+        ensures { result ≡ first_nonempty self.now.state.links }
     {
-        let _ = &self.header;
-        None
+        self.links.first_nonempty()
     }
 
     /// How many events, flights and octets of flights the lines have.
     pub fn counts(&self) -> Counts
         ensures { counted self.now.lines ≡ record { events = result.events; flights = result.flights; octets = result.octets } }
     {
-        let _ = &self.lines;
-        Counts {
-            events: 0,
-            flights: 0,
-            octets: 0,
-        }
+        self.lines.counts()
+    }
+
+    /// How many flights stand on a link.
+    pub fn len(&self, link: LinkId) -> usize
+        ensures { result ≡ length (on self.now.state.links link) }
+    {
+        self.links.len(link)
+    }
+
+    /// The flight at this place of a link, from 0: `None` exactly where `index` is not below the length.
+    pub fn flight(&self, link: LinkId, index: usize) -> Option<&Flight>
+        ensures { option_copied result ≡ slice_get (on self.now.state.links link) index }
+    {
+        self.links.flight(link, index)
     }
 }
