@@ -58,7 +58,7 @@ pub record IsRunAhead (input text : List ℕ) (left : Option (List ℕ)) : Type 
   pub rest : List ℕ
   pub ran : RanTo IsFrontOf input rest text
   pub unread : List ℕ
-  pub left : left ≡ Some unread
+  pub told : left ≡ Some unread
   pub ahead : length rest ≤ most_ahead + length unread
 
 -- what is said of the octets put out before and after a run of these octets that ended so, with these left at the source

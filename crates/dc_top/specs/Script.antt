@@ -60,13 +60,13 @@ IsTooLong passed rest = (most_line < length (line_of rest)) ⊎ (most_octets < p
 -- the first line of octets is no header, and this is its column; without a line it is the empty one
 pub record HasBadHeader (input : List ℕ) (column : ℕ) : Type 0 where
   pub outside : (h : Header) → IsScriptHeader h → line_of input ≡ header_text h → ⊥
-  pub column : IsHeaderColumn (line_of input) column
+  pub first_bad : IsHeaderColumn (line_of input) column
 
 -- the first line of octets, which is there, is neither an event nor a drain, and this is its column
 pub record HasBadLine (rest : List ℕ) (column : ℕ) : Type 0 where
   pub there : rest ≡ [] → ⊥
   pub outside : (s : Scripted) → IsLineOf s (line_of rest) → ⊥
-  pub column : IsColumn (line_of rest) column
+  pub first_bad : IsColumn (line_of rest) column
 
 -- the first line of octets, which is there, is an event that is not built
 pub record HasUnbuiltLine (rest : List ℕ) : Type 0 where

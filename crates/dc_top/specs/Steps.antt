@@ -15,6 +15,7 @@ use Rattle.script_text.specs.declared.scripted.Scripted.{Scripted}
 use Rattle.script_text.specs.declared.scripted.Scripted.TheVariants.{One, Drain}
 use Rattle.dc_world.specs.Links.{first_nonempty}
 use Rattle.dc_world.specs.Run.{WorldState, Kept, new_world, happen, entries_from, kept_after, counted, IsWithin, is_built}
+use Rattle.dc_top.specs.Script.{IsBuilt}
 
 -- how many routing policies there are
 abbrev pub policies : ℕ
@@ -87,9 +88,9 @@ pub record HasStoppedDraining (s : Status) (k : Kept) (old new : Option (List �
 pub record HasStoppedIn (s : Status) (line : Scripted) (k : Kept) (old new : Option (List ℕ)) : Type 0 where
   pub before : List Event
   pub event : Event
+  pub built : IsBuilt line
   pub begun : AreBegun line k before
   pub next : AreBegun line k (before ++ event ∷ [])
-  pub built : is_built event ≡ true
   pub stopped : HasStopped s k before event old new
 
 -- a line is an event that is not built

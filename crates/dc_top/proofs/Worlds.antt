@@ -1,0 +1,115 @@
+-- Worlds after events, and the text of the entries that these make.
+use Rattle.std.proofs.Common.{ℕ, ◌≡◌, ◌+◌, ◌<◌, ◌≤◌, ◌++◌, Bool, true, false, List, [], ◌∷◌, Option, Some, None, length, drop, take, refl, sym, ap, ◌∙◌, subst, arith, inl, inr, append_assoc, append-nil}
+use Rattle.std.specs.Prelude.{IfErr, Result, Ok, Err, count_by, cond}
+use Rattle.std.specs.List.{AllByRecursion, flat_map, sum_by}
+use Rattle.std.specs.Io.KnownBytes.{Appends}
+use Rattle.std.proofs.KnownBytes.{Appends-nil, Appends-trans}
+use Rattle.std.proofs.lemmas.List.{drop_at, length-append}
+use Rattle.std.proofs.lemmas.List.Sums.{sum_by-append}
+use Rattle.std.proofs.lemmas.Grind.{flat_map-append}
+use Rattle.dc_base.specs.declared.answers.Status.{Status}
+use Rattle.dc_base.specs.declared.answers.Status.TheVariants as status
+use Rattle.dc_base.specs.declared.events.Header.{Header}
+use Rattle.dc_base.specs.declared.events.Event.{Event}
+use Rattle.dc_base.specs.declared.events.Line.{Line}
+use Rattle.transcript.specs.Text.{lines_text}
+use Rattle.transcript.specs.Transcript.{Entry, entry_lines, transcript_text}
+use Rattle.dc_world.specs.Run.{WorldState, Kept, new_world, happen, entry_of, world_after, entries_from, kept_after, counted, is_event, IsWithin}
+use Rattle.dc_top.specs.Steps.{policies, kept_after_all, events_text, IsFirstStep, AreFirstSteps, HasRun, HasStopped, IsUnwritten}
+use Rattle.dc_top.proofs.Fronts.{front_after}
+use Rattle.dc_top.proofs.Texts.{entries_text-append, transcript_text-append}
+
+-- ---- one event after others
+
+pub world_after-next : (w : WorldState) (es : List Event) (e : Event) → world_after policies w (es ++ e ∷ []) ≡ (happen policies (world_after policies w es) e).0
+world_after-next w [] e = refl
+world_after-next w (x ∷ es) e = world_after-next (happen policies w x).0 es e
+
+pub entries-next : (w : WorldState) (es : List Event) (e : Event)
+    → entries_from policies w (es ++ e ∷ []) ≡ entries_from policies w es ++ entry_of policies (world_after policies w es) e ∷ []
+entries-next w [] e = refl
+entries-next w (x ∷ es) e = ap (λ (t : List Entry). entry_of policies w x ∷ t) (entries-next (happen policies w x).0 es e)
+
+pub entries-append : (w : WorldState) (es fs : List Event) → entries_from policies w (es ++ fs) ≡ entries_from policies w es ++ entries_from policies (world_after policies w es) fs
+entries-append w [] fs = refl
+entries-append w (e ∷ es) fs = ap (λ (t : List Entry). entry_of policies w e ∷ t) (entries-append (happen policies w e).0 es fs)
+
+pub kept-append : (k : Kept) (es fs : List Event) → kept_after_all k (es ++ fs) ≡ kept_after_all (kept_after_all k es) fs
+kept-append k [] fs = refl
+kept-append k (e ∷ es) fs = kept-append (kept_after policies k e) es fs
+
+pub kept_state : (k : Kept) (es : List Event) → (kept_after_all k es).state ≡ world_after policies k.state es
+kept_state k [] = refl
+kept_state k (e ∷ es) = kept_state (kept_after policies k e) es
+
+pub steps-append : (w : WorldState) (es fs : List Event) → AreFirstSteps w es → AreFirstSteps (world_after policies w es) fs → AreFirstSteps w (es ++ fs)
+steps-append w [] fs steps more = more
+steps-append w (e ∷ es) fs steps more = (steps.0, steps-append (happen policies w e).0 es fs steps.1 more)
+
+events_text-append : (w : WorldState) (es fs : List Event) → events_text w (es ++ fs) ≡ events_text w es ++ events_text (world_after policies w es) fs
+events_text-append w es fs =
+    ap (λ t. lines_text (flat_map entry_lines t)) (entries-append w es fs)
+    ∙ entries_text-append (entries_from policies w es) (entries_from policies (world_after policies w es) fs)
+
+-- ---- one event, run
+
+-- the new lines are those of the one entry
+pub new_text : (k : Kept) (e : Event) → lines_text (drop (length k.lines) (kept_after policies k e).lines) ≡ events_text k.state (e ∷ [])
+new_text k e =
+    ap lines_text (drop_at k.lines (entry_lines (entry_of policies k.state e)) (length k.lines) refl ∙ sym (append-nil (entry_lines (entry_of policies k.state e))))
+
+-- a text that was not written, of one event
+pub unwritten_stopped : {T : Type 0} (r : Result T Status) (k : Kept) (e : Event) (text : List ℕ) (old new : Option (List ℕ))
+    → text ≡ events_text k.state (e ∷ []) → IsWithin (counted k.lines) → IsWithin (counted (kept_after policies k e).lines)
+    → IfErr r (λ s. IsUnwritten s text old new) → IfErr r (λ s. HasStopped s k [] e old new)
+unwritten_stopped (Ok x) k e text old new is before after un = tt
+unwritten_stopped (Err status.Ok) k e text old new is before after un = un
+unwritten_stopped (Err status.Usage) k e text old new is before after un = un
+unwritten_stopped (Err (status.BadLine line column)) k e text old new is before after un = un
+unwritten_stopped (Err status.ReadFault) k e text old new is before after un = un
+unwritten_stopped (Err status.WriteFault) k e text old new is before after un =
+    (after, (un.0, subst (λ t. Appends old new (take un.0 t)) is un.1))
+unwritten_stopped (Err status.Memory) k e text old new is before after un = (before, un)
+unwritten_stopped (Err status.TooLong) k e text old new is before after un = un
+unwritten_stopped (Err status.NotBuilt) k e text old new is before after un = un
+
+-- ---- one event more
+
+pub run_none : (k : Kept) (old : Option (List ℕ)) → IsWithin (counted k.lines) → HasRun k [] k old old
+run_none k old within = record { world = refl; within = within; written = Appends-nil old }
+
+pub run_more : (k m n : Kept) (es fs : List Event) (a b c : Option (List ℕ)) → HasRun k es m a b → HasRun m fs n b c → HasRun k (es ++ fs) n a c
+run_more k m n es fs a b c p q =
+    let state : m.state ≡ world_after policies k.state es = ap (λ (x : Kept). x.state) p.world ∙ kept_state k es in
+    record {
+      world = q.world ∙ ap (λ x. kept_after_all x fs) p.world ∙ sym (kept-append k es fs);
+      within = q.within;
+      written = subst (Appends a c) (ap (λ w. events_text k.state es ++ events_text w fs) state ∙ sym (events_text-append k.state es fs))
+          (Appends-trans a b c (events_text k.state es) (events_text m.state fs) p.written q.written);
+    }
+
+-- the end came at the one event after events that were run
+pub stopped_after : (s : Status) (k m : Kept) (es : List Event) (e : Event) (a b c : Option (List ℕ)) → HasRun k es m a b → HasStopped s m [] e b c → HasStopped s k es e a c
+stopped_after status.Ok k m es e a b c p q = q
+stopped_after status.Usage k m es e a b c p q = q
+stopped_after (status.BadLine line column) k m es e a b c p q = q
+stopped_after status.ReadFault k m es e a b c p q = q
+stopped_after status.NotBuilt k m es e a b c p q = q
+stopped_after status.Memory k m es e a b c p q = (
+  subst (λ (x : Kept). IsWithin (counted x.lines)) p.world p.within,
+  subst (Appends a c) (append-nil (events_text k.state es)) (Appends-trans a b c (events_text k.state es) [] p.written q.1),
+)
+stopped_after status.TooLong k m es e a b c p q =
+    let next : kept_after_all m (e ∷ []) ≡ kept_after_all k (es ++ e ∷ []) = ap (λ x. kept_after_all x (e ∷ [])) p.world ∙ sym (kept-append k es (e ∷ [])) in (
+      subst (λ (x : Kept). IsWithin (counted x.lines)) p.world p.within,
+      subst (λ (x : Kept). IsWithin (counted x.lines) → ⊥) next q.1,
+      subst (Appends a c) (append-nil (events_text k.state es)) (Appends-trans a b c (events_text k.state es) [] p.written q.2),
+    )
+stopped_after status.WriteFault k m es e a b c p q =
+    let next : kept_after_all m (e ∷ []) ≡ kept_after_all k (es ++ e ∷ []) = ap (λ x. kept_after_all x (e ∷ [])) p.world ∙ sym (kept-append k es (e ∷ [])) in
+    let state : m.state ≡ world_after policies k.state es = ap (λ (x : Kept). x.state) p.world ∙ kept_state k es in
+    let text : events_text k.state es ++ events_text m.state (e ∷ []) ≡ events_text k.state (es ++ e ∷ []) =
+    ap (λ w. events_text k.state es ++ events_text w (e ∷ [])) state ∙ sym (events_text-append k.state es (e ∷ [])) in (
+      subst (λ (x : Kept). IsWithin (counted x.lines)) next q.0,
+      front_after a b c (events_text k.state es) (events_text m.state (e ∷ [])) (events_text k.state (es ++ e ∷ [])) text p.written q.1,
+    )
