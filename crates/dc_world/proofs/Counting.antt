@@ -1,12 +1,14 @@
 -- What lines count, one after another.
-use Rattle.std.proofs.Common.{ℕ, ◌≡◌, ◌+◌, ◌++◌, List, [], ◌∷◌, length, refl, ap, ◌∙◌, zero-add, length-append}
+use Rattle.std.proofs.Common.{ℕ, ◌≡◌, ◌+◌, ◌≤◌, arith, ◌++◌, List, [], ◌∷◌, length, refl, ap, ◌∙◌, zero-add, length-append}
 use Rattle.std.specs.Prelude.{cond, sum_by}
 use Rattle.std.proofs.lemmas.List.Sums.{sum_by-append}
 use Rattle.std.proofs.lemmas.Grind.{flat_map-append}
 use Rattle.dc_base.specs.declared.nodes.LinkId.{LinkId}
 use Rattle.dc_base.specs.declared.flights.Flight.{Flight}
+use Rattle.dc_base.specs.declared.events.Event.{Event}
 use Rattle.dc_base.specs.declared.events.Line.{Line}
 use Rattle.dc_base.specs.declared.events.Line.TheVariants.{Send}
+use Rattle.dc_base.specs.declared.events.Line.TheVariants as line
 use Rattle.transcript.specs.Transcript.{sends_of, sends}
 use Rattle.dc_world.specs.Run.{Counted, counted, is_event, octets_of}
 
@@ -31,3 +33,11 @@ counted-push xs l a b p q = let e = counted-append xs (l ∷ []) in cc
 
 pub counted-send : (l : LinkId) (f : Flight) (n : ℕ) → n ≡ octets_of (l, f) → counted (Send l f ∷ []) ≡ record { events = 0; flights = 1; octets = n }
 counted-send l f n e = let z = zero-add (octets_of (l, f)) in cc
+
+-- more lines have no fewer events
+pub events_grow : (xs ys : List Line) → (counted xs).events ≤ (counted (xs ++ ys)).events
+events_grow xs ys = let e = ap (λ (c : Counted). c.events) (counted-append xs ys) in omega arith
+
+-- and one more with an event
+pub events_next : (xs : List Line) (event : Event) → (counted (xs ++ line.Event event ∷ [])).events ≡ (counted xs).events + 1
+events_next xs event = ap (λ (c : Counted). c.events) (counted-append xs (line.Event event ∷ []))

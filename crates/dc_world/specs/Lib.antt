@@ -4,3 +4,4 @@ pub mod Plane
 pub mod Control
 pub mod Links
 pub mod Run
+pub mod Serving

@@ -68,7 +68,14 @@ impl Ciphering {
         let Ok(mut octets) = Vec::from_slice(self.alloc, text) else {
             return Err(Memory);
         };
-        nea(self.header.alg, &self.key, count, id, dir, octets.as_mut_slice());
+        nea(
+            self.header.alg,
+            &self.key,
+            count,
+            id,
+            dir,
+            octets.as_mut_slice(),
+        );
         Ok(Octets::from_vec(octets))
     }
 }

@@ -1,6 +1,6 @@
 //! Lines with the counts of their events, flights and octets.
 
-ghost use Rattle.std.specs.Prelude.{◌≡◌, ◌+◌, ◌++◌, ◌∷◌, [], length, IfOk, OnOk};
+ghost use Rattle.std.specs.Prelude.{◌≡◌, ◌+◌, ◌≤◌, ◌++◌, ◌∷◌, [], length, IfOk, OnOk, OnErr};
 ghost use Rattle.dc_base.specs.declared.nodes.LinkId.{LinkId};
 ghost use Rattle.dc_world.specs.Run.{counted, octets_of};
 
@@ -108,7 +108,8 @@ impl CountedLines {
 
     /// Adds a line at the end. After `Memory` the lines are as before.
     pub fn push(&mut self, line: Line) -> Result<(), Memory>
-        ensures { OnOk result (self.new ≡ self.old ++ line ∷ []) }
+        ensures ok { OnOk result (self.new ≡ self.old ++ line ∷ []) }
+        ensures err { OnErr result (self.new ≡ self.old) }
     {
         let counts = sum_of(self.counts, counts_of(&line))?;
         self.lines.push(line)?;
@@ -116,9 +117,10 @@ impl CountedLines {
         Ok(())
     }
 
-    /// Adds lines at the end. After `Memory` the lines are not used again.
+    /// Adds lines at the end. After `Memory` there are some of them.
     pub fn append(&mut self, lines: Seq<Line>) -> Result<(), Memory>
-        ensures { OnOk result (self.new ≡ self.old ++ lines) }
+        ensures ok { OnOk result (self.new ≡ self.old ++ lines) }
+        ensures grown { (counted self.old).events ≤ (counted self.new).events }
     {
         for line in lines.into_vec() {
             self.push(line)?;

@@ -109,7 +109,12 @@ impl PdcpEntities {
         ensures { IfOk result (λ flight. flight ≡ data_flight ciphering.now self.now.bearer dir num count sdu.now) }
     {
         let body = ciphering.ciphered(self.id, dir, count, sdu.as_slice())?;
-        let pdu = encode_data(ciphering.alloc(), self.n, sn_of(self.n, count), body.as_slice())?;
+        let pdu = encode_data(
+            ciphering.alloc(),
+            self.n,
+            sn_of(self.n, count),
+            body.as_slice(),
+        )?;
         Ok(Flight::Air {
             id: self.id,
             g: self.g,

@@ -6,6 +6,7 @@ mod control;
 mod counted;
 mod entities;
 mod links;
+mod network;
 mod nodes;
 mod plane;
 mod table;

@@ -1,10 +1,11 @@
 //! The master and the terminal.
 
-ghost use Rattle.std.specs.Prelude.{◌≡◌, ◌+◌, ◌-◌, ◌<◌, ◌^◌, ◌++◌, ◌∷◌, [], ◌&&◌, Bool, false, if◌then◌else◌, not, is_some, IfOk};
+ghost use Rattle.std.specs.Prelude.{◌≡◌, ◌+◌, ◌-◌, ◌<◌, ◌≤◌, ◌^◌, ◌++◌, ◌∷◌, [], ◌&&◌, Bool, false, if◌then◌else◌, not, is_some, IfOk};
 ghost use Rattle.pdcp_pdu.specs.DataPdu.{IsPayload};
 ghost use Rattle.dc_world.specs.Entities.{bearer_in};
 ghost use Rattle.dc_world.specs.Plane.{is_aged};
 ghost use Rattle.dc_world.specs.Control.{new_nodes, commanded, set_up, told_terminal, told_master, is_open};
+ghost use Rattle.dc_world.specs.Serving.{serves};
 ghost use Rattle.dc_world.specs.Run.{unless_open, submission, table_at, taken_from};
 
 use crate::ciphering::Ciphering;
@@ -65,8 +66,8 @@ impl NodePair {
         }
     }
 
-    /// Whether the master has the bearer, and its command is not open.
-    pub fn master_serves(&self, id: DrbId) -> bool
+    // Whether the master has the bearer, and its command is not open.
+    fn master_serves(&self, id: DrbId) -> bool
         ensures { result ≡ is_some (unless_open self.now.busy (bearer_in self.now.master id)) }
     {
         match self.master.generation(id) {
@@ -75,17 +76,11 @@ impl NodePair {
         }
     }
 
-    /// Whether the terminal has the bearer.
-    pub fn terminal_serves(&self, id: DrbId) -> bool
-        ensures { result ≡ is_some (bearer_in self.now.terminal id) }
-    {
-        self.terminal.generation(id).is_some()
-    }
-
     // The master sets a bearer up. After `Memory` the nodes are not used again.
     fn set_up(&mut self, ciphering: &Ciphering, new: &NewBearer) -> Result<Outcome, Memory>
         requires { self.old.drawn < 2 ^ 32 - 1 }
-        ensures { IfOk result (λ outcome. (self.new, outcome) ≡ set_up ciphering.now self.old new.now.id new.now.n new.now.first new.now.shape new.now.threshold new.now.policy) }
+        ensures drawn { self.new.drawn ≤ self.old.drawn + 1 }
+        ensures value { IfOk result (λ outcome. (self.new, outcome) ≡ set_up ciphering.now self.old new.now.id new.now.n new.now.first new.now.shape new.now.threshold new.now.policy) }
     {
         let g = self.drawn + 1;
         let lines = set_up_lines(ciphering, g, new)?;
@@ -104,7 +99,8 @@ impl NodePair {
         new: &NewBearer,
     ) -> Result<Outcome, Memory>
         requires { self.old.drawn < 2 ^ 32 - 1 }
-        ensures { IfOk result (λ outcome. (self.new, outcome) ≡ commanded policies ciphering.now self.old new.now.id new.now.n new.now.first new.now.shape new.now.threshold new.now.policy) }
+        ensures drawn { self.new.drawn ≤ self.old.drawn + 1 }
+        ensures value { IfOk result (λ outcome. (self.new, outcome) ≡ commanded policies ciphering.now self.old new.now.id new.now.n new.now.first new.now.shape new.now.threshold new.now.policy) }
     {
         if self.is_busy() {
             return Ok(refused(ciphering.alloc(), Refusal::Busy));
@@ -131,7 +127,8 @@ impl NodePair {
         sdu: &Octets,
     ) -> Result<Outcome, Memory>
         requires { IsPayload sdu.now }
-        ensures { IfOk result (λ outcome. (self.new, outcome) ≡ submission ciphering.now self.old id sdu.now dir) }
+        ensures drawn { self.new.drawn ≡ self.old.drawn }
+        ensures value { IfOk result (λ outcome. (self.new, outcome) ≡ submission ciphering.now self.old id sdu.now dir) }
     {
         match dir {
             Dir::Ul => self.terminal.submit(ciphering, Dir::Ul, id, sdu),
@@ -144,6 +141,17 @@ impl NodePair {
         }
     }
 
+    /// Whether a node serves a bearer: the master one whose command is not open, the terminal any that it has.
+    pub fn serves(&self, node: Node, id: DrbId) -> bool
+        ensures { result ≡ serves self.now node id }
+    {
+        match node {
+            Node::M => self.master_serves(id),
+            Node::T => self.terminal.generation(id).is_some(),
+            Node::A | Node::B => false,
+        }
+    }
+
     /// Whether a flight to this node is older than the window of the bearer that it is for.
     pub fn is_aged(&self, node: Node, flight: &Flight) -> bool
         ensures { result ≡ is_aged (table_at node self.now) flight.now }
@@ -151,17 +159,20 @@ impl NodePair {
         match node {
             Node::T => self.terminal.is_aged(flight),
             Node::M => self.master.is_aged(flight),
-            _ => false,
+            Node::A | Node::B => false,
         }
     }
 
     // The terminal takes a record from the master. After `Memory` the nodes are not used again.
     fn tell_terminal(&mut self, alloc: Global, flight: &Flight) -> Result<Seq<Line>, Memory>
-        ensures { IfOk result (λ lines. (self.new, lines) ≡ told_terminal self.old flight.now) }
+        ensures drawn { self.new.drawn ≡ self.old.drawn }
+        ensures value { IfOk result (λ lines. (self.new, lines) ≡ told_terminal self.old flight.now) }
     {
         match flight {
             Flight::Ctl(Rec::Reconf { plan, .. }) => {
-                let mut lines = self.terminal.take_items(alloc, plan.g, plan.items.as_slice())?;
+                let mut lines = self
+                    .terminal
+                    .take_items(alloc, plan.g, plan.items.as_slice())?;
                 lines.push(complete_line(plan.g))?;
                 Ok(lines)
             }
@@ -171,7 +182,8 @@ impl NodePair {
 
     // The master takes a record from the terminal. After `Memory` the nodes are not used again.
     fn tell_master(&mut self, alloc: Global, flight: &Flight) -> Result<Seq<Line>, Memory>
-        ensures { IfOk result (λ lines. (self.new, lines) ≡ told_master self.old flight.now) }
+        ensures drawn { self.new.drawn ≡ self.old.drawn }
+        ensures value { IfOk result (λ lines. (self.new, lines) ≡ told_master self.old flight.now) }
     {
         match flight {
             Flight::Ctl(Rec::Rcomp { g }) => {
@@ -192,7 +204,8 @@ impl NodePair {
         link: LinkId,
         flight: &Flight,
     ) -> Result<Seq<Line>, Memory>
-        ensures { IfOk result (λ lines. (self.new, lines) ≡ taken_from ciphering.now self.old link.from link.to link.class flight.now) }
+        ensures drawn { self.new.drawn ≡ self.old.drawn }
+        ensures value { IfOk result (λ lines. (self.new, lines) ≡ taken_from ciphering.now self.old link.from link.to link.class flight.now) }
     {
         match (link.from, link.to, link.class) {
             (Node::M, Node::T, Class::Ctl) => self.tell_terminal(ciphering.alloc(), flight),

@@ -5,7 +5,9 @@ ghost use Rattle.transcript.specs.Text.{is_data};
 ghost use Rattle.transcript.specs.Claims.{receiver};
 ghost use Rattle.dc_world.specs.Plane.{leg, other, up_line, freed_lines, identity_of};
 
-use dc_base::{Answer, Class, Dir, DrbId, Flight, Line, LinkId, Memory, Node, Note, Octets, Refusal, Seq};
+use dc_base::{
+    Answer, Class, Dir, DrbId, Flight, Line, LinkId, Memory, Node, Note, Octets, Refusal, Seq,
+};
 use std::alloc::Global;
 
 /// An answer with the lines after it.
@@ -54,7 +56,12 @@ fn receiver(dir: Dir) -> Node
 }
 
 /// The lines of payloads that go up, each with its COUNT.
-pub fn up_lines(alloc: Global, id: DrbId, dir: Dir, handed: Seq<(u32, Octets)>) -> Result<Seq<Line>, Memory>
+pub fn up_lines(
+    alloc: Global,
+    id: DrbId,
+    dir: Dir,
+    handed: Seq<(u32, Octets)>,
+) -> Result<Seq<Line>, Memory>
     ensures { IfOk result (λ lines. lines ≡ map (up_line id dir) handed) }
 {
     let mut lines = Seq::new(alloc);

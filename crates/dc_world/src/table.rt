@@ -69,7 +69,14 @@ impl Bearers {
     pub fn is_aged(&self, flight: &Flight) -> bool
         ensures { result ≡ is_aged self.now flight.now }
     {
-        let Flight::Air { id, g, tag, pdu, .. } = flight else {
+        let Flight::Air {
+            id,
+            g,
+            tag,
+            pdu,
+            ..
+        } = flight
+        else {
             return false;
         };
         match tag.get() {
@@ -140,12 +147,7 @@ impl Bearers {
     }
 
     /// The terminal takes the items of a plan, one after another. After `Memory` the table is not used again.
-    pub fn take_items(
-        &mut self,
-        alloc: Global,
-        g: Gen,
-        items: &[Item],
-    ) -> Result<Seq<Line>, Memory>
+    pub fn take_items(&mut self, alloc: Global, g: Gen, items: &[Item]) -> Result<Seq<Line>, Memory>
         ensures { IfOk result (λ lines. (self.new, lines) ≡ fold (item_taken g) (self.old, []) items.now) }
     {
         let mut lines = Seq::new(alloc);

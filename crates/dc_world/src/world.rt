@@ -2,14 +2,12 @@
 
 ghost use Rattle.std.specs.Prelude.{◌≡◌, [], true, IfOk, OnOk, nat_lt, length, slice_get, is_some};
 ghost use Rattle.std.specs.Option.{option_copied};
-ghost use Rattle.dc_world.specs.Entities.{bearer_in};
+ghost use Rattle.dc_world.specs.Serving.{serves};
 ghost use Rattle.dc_world.specs.Links.{on, first_nonempty};
 ghost use Rattle.dc_world.specs.Run.{new_world, is_built, IsGood, IsWithin, counted, kept_after};
 
-use crate::ciphering::Ciphering;
 use crate::counted::{CountedLines, Counts};
-use crate::links::LinkSet;
-use crate::nodes::NodePair;
+use crate::network::Network;
 use dc_base::{Alg, DrbId, Event, Flight, Line, LinkId, Memory, Node, Seq};
 use std::alloc::Global;
 use std::marker::Model;
@@ -17,18 +15,20 @@ use std::marker::Model;
 /// The nodes and the links between them, and all lines since the start.
 #[derive(Drop)]
 pub struct World {
-    ciphering: Ciphering,
-    nodes: NodePair,
-    links: LinkSet,
+    network: Network,
     lines: CountedLines,
 }
 
 impl Model for World {
-    ghost use Rattle.dc_world.specs.Run.{Kept};
+    ghost use Rattle.std.specs.Prelude.{◌≤◌};
+    ghost use Rattle.dc_world.specs.Run.{Kept, counted};
 
     ghost Value = { Kept };
 
-    ghost view = { λ a. record { state = record { header = a.ciphering; nodes = a.nodes; links = a.links }; lines = a.lines } };
+    ghost view = { λ a. record { state = a.network; lines = a.lines } };
+
+    // No more generations were drawn than there were events.
+    ghost invariant = { λ a. a.network.nodes.drawn ≤ (counted a.lines).events };
 }
 
 /// Whether a world takes the event so far.
@@ -52,22 +52,24 @@ impl World {
         ensures { IfOk result (λ w. w ≡ record { state = new_world (record { alg = alg; used = used; root = root.now }); lines = [] }) }
     {
         Ok(World {
-            ciphering: Ciphering::new(alloc, alg, used, root),
-            nodes: NodePair::new(alloc)?,
-            links: LinkSet::new(alloc)?,
+            network: Network::new(alloc, alg, used, root)?,
             lines: CountedLines::new(alloc),
         })
     }
 
     /// One event, where there are so many policies: the event, its answer and the lines after it are added to the lines.
     /// After `Memory` the world is not used again.
+    #[tactic(auto, using(crate::proofs::Counting::events_next, crate::proofs::Counting::events_grow))]
     pub fn event(&mut self, event: &Event, policies: usize) -> Result<(), Memory>
         requires good { IsGood event.now }
         requires built { is_built event.now ≡ true }
         requires within { IsWithin (counted self.old.lines) }
         ensures { OnOk result (self.new ≡ kept_after policies self.old event.now) }
     {
-        Err(Memory)
+        self.lines.push(Line::Event(event.copy()?))?;
+        let (answer, lines) = self.network.happen(policies, event)?;
+        self.lines.push(Line::Answer(answer))?;
+        self.lines.append(lines)
     }
 
     /// All lines since the start.
@@ -88,7 +90,7 @@ impl World {
     pub fn first_nonempty(&self) -> Option<LinkId>
         ensures { result ≡ first_nonempty self.now.state.links }
     {
-        self.links.first_nonempty()
+        self.network.links().first_nonempty()
     }
 
     /// How many events, flights and octets of flights the lines have.
@@ -102,13 +104,28 @@ impl World {
     pub fn len(&self, link: LinkId) -> usize
         ensures { result ≡ length (on self.now.state.links link) }
     {
-        self.links.len(link)
+        self.network.links().len(link)
     }
 
     /// The flight at this place of a link, from 0: `None` exactly where `index` is not below the length.
     pub fn flight(&self, link: LinkId, index: usize) -> Option<&Flight>
         ensures { option_copied result ≡ slice_get (on self.now.state.links link) index }
     {
-        self.links.flight(link, index)
+        self.network.links().flight(link, index)
+    }
+
+    /// Whether a command is open.
+    pub fn is_busy(&self) -> bool
+        ensures { result ≡ is_some self.now.state.nodes.busy }
+    {
+        self.network.nodes().is_busy()
+    }
+
+    /// Whether a node serves a bearer: the master one whose command is not open, the terminal any that it has, and no
+    /// other node any.
+    pub fn has(&self, node: Node, id: DrbId) -> bool
+        ensures { result ≡ serves self.now.state.nodes node id }
+    {
+        self.network.nodes().serves(node, id)
     }
 }
