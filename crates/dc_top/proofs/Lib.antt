@@ -3,6 +3,6 @@ pub mod Promised
 pub mod Texts
 pub mod Fronts
 pub mod Worlds
-pub mod Reading
+pub mod Taken
 pub mod Lines
 pub mod SoFar

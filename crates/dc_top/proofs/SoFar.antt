@@ -4,13 +4,13 @@ use Rattle.std.specs.Prelude.{IfSome}
 use Rattle.std.specs.List.{AllByRecursion, flat_map}
 use Rattle.std.specs.Io.KnownBytes.{Appends, IsAtEnd, prepend_known}
 use Rattle.std.proofs.KnownBytes.{Appends-nil, Appends-trans, prepend_known-nil}
-use Rattle.std.proofs.lemmas.Option.{none-some, same_Some}
+use Rattle.std.proofs.lemmas.List.{length_push}
 use Rattle.dc_base.specs.declared.answers.Status.{Status}
 use Rattle.dc_base.specs.declared.answers.Status.TheVariants as status
 use Rattle.dc_base.specs.declared.events.Header.{Header}
 use Rattle.dc_base.specs.declared.events.Event.{Event}
 use Rattle.dc_outside.specs.Octets.{AppendsFront}
-use Rattle.dc_text.specs.Lines.{GivesLine, IsCutOff}
+use Rattle.dc_text.specs.Lines.{GivesLine, IsCutOff, line_of, span}
 use Rattle.transcript.specs.Claims.{IsFaithful}
 use Rattle.transcript.specs.Text.{header_text, ended}
 use Rattle.transcript.specs.Transcript.{Entry, entry_lines, transcript_text}
@@ -19,16 +19,16 @@ use Rattle.script_text.specs.Scripts.{IsScriptHeader}
 use Rattle.script_text.specs.declared.scripted.Scripted.{Scripted}
 use Rattle.script_text.specs.declared.scripted.Scripted.TheVariants.{One, Drain}
 use Rattle.dc_world.specs.Run.{Kept, IsGood, is_built, entry_of, entries_from, counted, IsWithin}
-use Rattle.dc_top.specs.Script.{HasRead, HasBadHeader, HasBadLine, HasUnbuiltLine, IsBuilt, IsInRange, IsTaken, IsTooLong, IsUnread, IsUnreadHeader, IsUnreadLine, line_text, most_line}
+use Rattle.dc_top.specs.Script.{HasRead, HasBadHeader, HasBadLine, HasUnbuiltLine, IsBuilt, IsInRange, IsTaken, IsTooLong, IsUnread, IsUnreadHeader, IsUnreadLine, line_text, most_line, most_octets}
 use Rattle.dc_top.specs.Steps.{policies, start, kept_after_all, events_text, AreEventsOf, AreBegun, HasRun, HasStopped, HasStoppedIn, HasEndedAt, IsUnbuilt, IsUnwritten}
-use Rattle.dc_top.specs.Run.{IsTranscriptOf, no_line, one_more, IsFrontOf, whole, part, RanTo}
+use Rattle.dc_top.specs.Run.{IsTranscriptOf, no_lines, one_more, IsFrontOf, whole, part, RanTo}
 use Rattle.dc_top.specs.Ended.{HasEnded, IsRunOfFront, IsRunAhead, PassesLimit}
 use Rattle.dc_top.proofs.Promised.{AreGood, run_faithful}
 use Rattle.dc_top.proofs.Texts.{transcript_text-none}
 use Rattle.dc_top.proofs.Fronts.{front_after}
 use Rattle.dc_top.proofs.Lines.{kept, entries, state, begun_good, events_begun, kept-more, entries_more, text_more, are_entries, are_first}
 use Rattle.dc_top.proofs.Worlds.{entries-next}
-use Rattle.dc_top.proofs.Reading.{IsAtRest, ReadsOn, not_far, few_lines}
+use Rattle.dc_top.proofs.Taken.{IsAtRest, ReadsOn, reads_first, reads_more, not_far, few_lines}
 
 -- the header and these lines were run: the world, and what was put out before and after
 pub record IsSoFar (h : Header) (lines : List Scripted) (k : Kept) (old new : Option (List ℕ)) : Type 0 where
@@ -56,14 +56,18 @@ so_far_first h k old new good is written = record {
   events = [];
   sound = tt;
   world = is;
-  transcript = no_line;
+  transcript = no_lines;
   within = subst (λ (x : Kept). IsWithin (counted x.lines)) (sym is) within_nothing;
   written = subst (Appends old new) (sym (transcript_text-none h)) written;
 }
 
+unbuilt_line : (line : Scripted) (rest : List ℕ) → IsInRange line → rest ≢ [] → line_text line ≡ line_of rest → IsUnbuilt line → HasUnbuiltLine rest
+unbuilt_line (One e) rest in_range some is unbuilt = record { there = some; event = e; in_range = in_range; spelled = sym is; unbuilt = unbuilt }
+unbuilt_line Drain rest in_range some is unbuilt = absurd unbuilt
+
 module _ (h : Header) (lines : List Scripted) (k : Kept) (old mid : Option (List ℕ)) (s : IsSoFar h lines k old mid) where
   -- the run of the lines so far
-  ran : (input rest : List ℕ) → HasRead input h lines rest → RanTo IsTranscriptOf input rest (transcript_text h (entries h s.events))
+  abbrev ran : (input rest : List ℕ) → HasRead input h lines rest → RanTo IsTranscriptOf input rest (transcript_text h (entries h s.events))
   ran input rest read = record {
     header = h;
     lines = lines;
@@ -77,7 +81,7 @@ module _ (h : Header) (lines : List Scripted) (k : Kept) (old mid : Option (List
     spelled = refl;
   }
 
-  ran_front : (input rest : List ℕ) → HasRead input h lines rest → RanTo IsFrontOf input rest (transcript_text h (entries h s.events))
+  abbrev ran_front : (input rest : List ℕ) → HasRead input h lines rest → RanTo IsFrontOf input rest (transcript_text h (entries h s.events))
   ran_front input rest read = record {
     header = h;
     lines = lines;
@@ -161,7 +165,7 @@ module _ (h : Header) (lines : List Scripted) (k : Kept) (old mid : Option (List
         (part lines (entries h s.events) line (entries_from policies (state h s.events) es) s.transcript
         (are_first h line s.events es s.sound (subst (λ x. AreBegun line x es) s.world begun)))
 
-    ran_part : (input rest : List ℕ) (es : List Event) → HasRead input h (lines ++ line ∷ []) rest → IsBuilt line → AreBegun line k es → IsWithin (counted (kept_after_all k es).lines)
+    abbrev ran_part : (input rest : List ℕ) (es : List Event) → HasRead input h (lines ++ line ∷ []) rest → IsBuilt line → AreBegun line k es → IsWithin (counted (kept_after_all k es).lines)
         → RanTo IsFrontOf input rest (transcript_text h (entries h (s.events ++ es)))
     ran_part input rest es read built begun within = record {
       header = h;
@@ -192,12 +196,9 @@ module _ (h : Header) (lines : List Scripted) (k : Kept) (old mid : Option (List
           ran = ran_part input rest es read built begun within;
           entry = one;
           next = subst (IsFrontOf (lines ++ line ∷ [])) more (front_of (es ++ e ∷ []) next);
-          faithful = subst (λ t. Claimed t) more (run_faithful policies h (s.events ++ (es ++ e ∷ [])) (sound_more (es ++ e ∷ []) built next));
+          faithful = subst (λ t. IsFaithful h policies t) more (run_faithful policies h (s.events ++ (es ++ e ∷ [])) (sound_more (es ++ e ∷ []) built next));
           past = λ w. past (subst (λ (x : Kept). IsWithin (counted x.lines)) (sym (world_is (es ++ e ∷ []))) (subst (λ t. IsWithin (counted (flat_map entry_lines t))) (sym more) w));
         }
-      where
-        abbrev Claimed : List Entry → Type 0
-        Claimed t = IsFaithful h policies t
 
     stopped_in : (st : Status) (input rest : List ℕ) (left new : Option (List ℕ)) → HasRead input h (lines ++ line ∷ []) rest
         → (unread : List ℕ) × (left ≡ Some unread) × (length rest ≤ 65536 + length unread)
@@ -229,3 +230,149 @@ module _ (h : Header) (lines : List Scripted) (k : Kept) (old mid : Option (List
           },
           front_after old mid new (transcript_text h (entries h s.events)) (events_text k.state es) (transcript_text h (entries h (s.events ++ es))) (text_is es) s.written p.stopped.1,
         )
+
+    unbuilt_at : (input rest : List ℕ) (left new : Option (List ℕ)) → HasRead input h lines rest → rest ≢ [] → line_text line ≡ line_of rest → IsUnbuilt line → Appends mid new []
+        → HasEnded input status.NotBuilt left old new
+    unbuilt_at input rest left new read some is unbuilt none = (
+      transcript_text h (entries h s.events),
+      (rest, ran input rest read, unbuilt_line line rest in_range some is unbuilt),
+      subst (Appends old new) (append-nil (transcript_text h (entries h s.events))) (Appends-trans old mid new (transcript_text h (entries h s.events)) [] s.written none),
+    )
+
+    -- the line was taken, and was not run to its end
+    pub ended_at : (st : Status) (input held : List ℕ) (now now' left new : Option (List ℕ)) (passed passed' : ℕ) → IsAtRest input h lines now passed
+        → GivesLine now now' (line_text line) → IsAtRest input h (lines ++ line ∷ []) now' passed' → now' ≡ prepend_known held left → length held ≤ 65536
+        → HasEndedAt st line k mid new → HasEnded input st left old new
+    ended_at st input held now now' left new passed passed' before gives after is few ended = by_status st ended
+      where
+        near : (unread : List ℕ) × (left ≡ Some unread) × (length after.rest ≤ 65536 + length unread)
+        near = not_far held left after.rest (sym is ∙ after.told) few
+
+        known : GivesLine (Some before.rest) now' (line_text line)
+        known = subst (λ o. GivesLine o now' (line_text line)) before.told gives
+
+        by_status : (st : Status) → HasEndedAt st line k mid new → HasEnded input st left old new
+        by_status status.Ok p = stopped_in status.Ok input after.rest left new after.read near p
+        by_status status.Usage p = stopped_in status.Usage input after.rest left new after.read near p
+        by_status (status.BadLine number column) p = stopped_in (status.BadLine number column) input after.rest left new after.read near p
+        by_status status.ReadFault p = stopped_in status.ReadFault input after.rest left new after.read near p
+        by_status status.WriteFault p = stopped_in status.WriteFault input after.rest left new after.read near p
+        by_status status.Memory p = stopped_in status.Memory input after.rest left new after.read near p
+        by_status status.TooLong p = stopped_in status.TooLong input after.rest left new after.read near p
+        by_status status.NotBuilt p = unbuilt_at input before.rest left new before.read known.0 known.1 p.0 p.1
+
+-- ---- an end at the header
+
+pub unread_header : (st : Status) (input : List ℕ) (now left out : Option (List ℕ)) → now ≡ Some input → IsUnreadHeader st now 0 left → HasEnded input st left out out
+unread_header status.Ok input now left out told un = absurd un
+unread_header status.Usage input now left out told un = absurd un
+unread_header status.WriteFault input now left out told un = absurd un
+unread_header status.NotBuilt input now left out told un = absurd un
+unread_header (status.BadLine line column) input now left out told un =
+    ([], inl (subst (λ o. IfSome o (λ octets. HasBadHeader octets column)) told un.1, un.0, refl), Appends-nil out)
+unread_header status.ReadFault input now left out told un = ([], inl (refl, subst (λ o. IsCutOff o left) told un), Appends-nil out)
+unread_header status.TooLong input now left out told un = ([], inl (refl, subst (λ o. IfSome o (IsTooLong 0)) told un), Appends-nil out)
+unread_header status.Memory input now left out told un = ([], inl refl, Appends-nil out)
+
+-- the header was taken, and its line was not written whole
+pub unwritten_header : (st : Status) (h : Header) (input held : List ℕ) (now left old new : Option (List ℕ)) (passed : ℕ) → IsScriptHeader h → IsAtRest input h [] now passed
+    → now ≡ prepend_known held left → length held ≤ 65536 → IsUnwritten st (ended (header_text h)) old new → HasEnded input st left old new
+unwritten_header status.Ok h input held now left old new passed good r is few un = absurd un
+unwritten_header status.Usage h input held now left old new passed good r is few un = absurd un
+unwritten_header (status.BadLine line column) h input held now left old new passed good r is few un = absurd un
+unwritten_header status.ReadFault h input held now left old new passed good r is few un = absurd un
+unwritten_header status.TooLong h input held now left old new passed good r is few un = absurd un
+unwritten_header status.NotBuilt h input held now left old new passed good r is few un = absurd un
+unwritten_header status.Memory h input held now left old new passed good r is few un = ([], inl refl, un)
+unwritten_header status.WriteFault h input held now left old new passed good r is few un =
+    let near = not_far held left r.rest (sym is ∙ r.told) few in (
+      transcript_text h [],
+      record {
+        rest = r.rest;
+        ran = record {
+          header = h;
+          lines = [];
+          entries = [];
+          good = good;
+          taken = tt;
+          read = r.read;
+          transcript = whole [] [] no_lines;
+          faithful = run_faithful policies h [] tt;
+          within = within_nothing;
+          spelled = refl;
+        };
+        unread = near.0;
+        told = near.1;
+        ahead = near.2;
+      },
+      subst (AppendsFront old new) (sym (transcript_text-none h)) un,
+    )
+
+-- ---- the loop over lines
+
+-- a run goes on with the line of this number: what it ran, and what it read
+pub record IsAfterLines (k : Kept) (number passed : ℕ) (all now old new : Option (List ℕ)) : Type 0 where
+  pub header : Header
+  pub lines : List Scripted
+  pub so_far : IsSoFar header lines k old new
+  pub reads : ReadsOn all header lines now passed
+  pub counted : number ≡ length lines + 2
+
+pub after_header : (h : Header) (k : Kept) (passed : ℕ) (all now old new : Option (List ℕ)) → IsScriptHeader h → k ≡ start h → Appends old new (ended (header_text h))
+    → GivesLine (prepend_known [] all) now (header_text h) → IfSome (prepend_known [] all) (λ octets. passed ≡ 0 + span octets) → passed ≤ most_octets
+    → IsAfterLines k 2 passed all now old new
+after_header h k passed all now old new good is written gives counted short = record {
+  header = h;
+  lines = [];
+  so_far = so_far_first h k old new good is written;
+  reads = reads_first all now h passed gives counted short;
+  counted = refl;
+}
+
+module _ (k : Kept) (number passed : ℕ) (all now old mid : Option (List ℕ)) (a : IsAfterLines k number passed all now old mid) where
+  pub after_line : (line : Scripted) (k' : Kept) (es : List Event) (passed' : ℕ) (now' new : Option (List ℕ)) → IsInRange line → length (line_text line) ≤ most_line → IsBuilt line
+      → AreEventsOf line k es → HasRun k es k' mid new → GivesLine now now' (line_text line) → IfSome now (λ octets. passed' ≡ passed + span octets) → passed' ≤ most_octets
+      → IsAfterLines k' (number + 1) passed' all now' old new
+  after_line line k' es passed' now' new in_range short built all' run gives counted few = record {
+    header = a.header;
+    lines = a.lines ++ line ∷ [];
+    so_far = so_far_next a.header a.lines k old mid a.so_far line in_range short es k' new built all' run;
+    reads = reads_more all a.header a.lines line now now' passed passed' a.reads gives counted few;
+    counted = ap (λ n. n + 1) a.counted ∙ omega (arith, length_push a.lines line);
+  }
+
+  module _ (input : List ℕ) (told : all ≡ Some input) (left : Option (List ℕ)) where
+    pub end_of_input : IsAtEnd now → HasEnded input status.Ok left old mid
+    end_of_input at_end = ended_well a.header a.lines k old mid a.so_far input now left passed (at_rest all input a.header a.lines now passed told a.reads) at_end
+
+    pub end_of_lines : 4294967295 ≤ number → HasEnded input status.TooLong left old mid
+    end_of_lines many = absurd (too_many_lines a.header a.lines k old mid a.so_far input now passed number (at_rest all input a.header a.lines now passed told a.reads) a.counted many)
+
+    pub no_line : (st : Status) → IsUnreadLine st number now passed left → HasEnded input st left old mid
+    no_line st un = unread_line a.header a.lines k old mid a.so_far st input now left passed number (at_rest all input a.header a.lines now passed told a.reads) a.counted un
+
+    pub end_in_line : (st : Status) (line : Scripted) (held : List ℕ) (passed' : ℕ) (new : Option (List ℕ)) → IsInRange line → length (line_text line) ≤ most_line
+        → GivesLine now (prepend_known held left) (line_text line) → IfSome now (λ octets. passed' ≡ passed + span octets) → passed' ≤ most_octets → length held ≤ 65536
+        → HasEndedAt st line k mid new → HasEnded input st left old new
+    end_in_line st line held passed' new in_range short gives counted small few stopped =
+        let reads = reads_more all a.header a.lines line now (prepend_known held left) passed passed' a.reads gives counted small in
+        ended_at a.header a.lines k old mid a.so_far line in_range short st input held now (prepend_known held left) left new passed passed'
+        (at_rest all input a.header a.lines now passed told a.reads) gives
+        (at_rest all input a.header (a.lines ++ line ∷ []) (prepend_known held left) passed' told reads) refl few stopped
+
+-- an end at the header's own line
+pub end_at_header : (st : Status) (h : Header) (input held : List ℕ) (all left old new : Option (List ℕ)) (passed : ℕ) → all ≡ Some input → IsScriptHeader h
+    → GivesLine (prepend_known [] all) (prepend_known held left) (header_text h) → IfSome (prepend_known [] all) (λ octets. passed ≡ 0 + span octets) → passed ≤ most_octets
+    → length held ≤ 65536 → IsUnwritten st (ended (header_text h)) old new → HasEnded input st left old new
+end_at_header st h input held all left old new passed told good gives counted short few un =
+    let reads = reads_first all (prepend_known held left) h passed gives counted short in
+    unwritten_header st h input held (prepend_known held left) left old new passed good (at_rest all input h [] (prepend_known held left) passed told reads) refl few un
+
+-- the header was written, and there was no memory for the world
+pub end_before_lines : (h : Header) (input held : List ℕ) (all left old new : Option (List ℕ)) (passed : ℕ) → all ≡ Some input → IsScriptHeader h
+    → GivesLine (prepend_known [] all) (prepend_known held left) (header_text h) → IfSome (prepend_known [] all) (λ octets. passed ≡ 0 + span octets) → passed ≤ most_octets
+    → Appends old new (ended (header_text h)) → HasEnded input status.Memory left old new
+end_before_lines h input held all left old new passed told good gives counted short written =
+    let reads = reads_first all (prepend_known held left) h passed gives counted short in
+    no_memory h [] (start h) old new (so_far_first h (start h) old new good refl written) input (prepend_known held left) left passed
+    (at_rest all input h [] (prepend_known held left) passed told reads)

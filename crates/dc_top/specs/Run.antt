@@ -33,7 +33,7 @@ AreFirstEntriesOf Drain before es = EachFrom IsDrainStep before es
 
 -- the entries are those of the lines, line by line
 pub data IsTranscriptOf : List Scripted → List Entry → Type 0 where
-  no_line : IsTranscriptOf [] []
+  no_lines : IsTranscriptOf [] []
   one_more : (lines : List Scripted) (before : List Entry) (line : Scripted) (es : List Entry) → IsTranscriptOf lines before
     → AreEntriesOf line before es → IsTranscriptOf (lines ++ line ∷ []) (before ++ es)
 
