@@ -1,7 +1,6 @@
 pub mod Forms
 pub mod Promised
 pub mod Texts
-pub mod Fronts
 pub mod Worlds
 pub mod Taken
 pub mod Lines

@@ -18,7 +18,7 @@ use Rattle.dc_top.specs.Steps.{policies, kept_after_all, events_text, IsFirstSte
 use Rattle.dc_top.specs.Run.{IsDrainStep, AreEntriesOf, AreFirstEntriesOf}
 use Rattle.dc_top.proofs.Promised.{AreGood, first_loaded_is}
 use Rattle.dc_top.proofs.Texts.{transcript_text-append}
-use Rattle.dc_top.proofs.Worlds.{world_after-next, entries-next, entries-append, kept_state}
+use Rattle.dc_top.proofs.Worlds.{world_after-next, world_after-append, entries-next, entries-append, kept_state}
 
 -- ---- events that a world takes
 
@@ -86,6 +86,9 @@ module _ (h : Header) where
 
   pub entries_more : (es fs : List Event) → entries (es ++ fs) ≡ entries es ++ entries_from policies (state es) fs
   entries_more es fs = entries-append (new_world h) es fs
+
+  pub state_more : (es fs : List Event) → state (es ++ fs) ≡ world_after policies (state es) fs
+  state_more es fs = world_after-append (new_world h) es fs
 
   pub text_more : (es fs : List Event) → transcript_text h (entries (es ++ fs)) ≡ transcript_text h (entries es) ++ events_text (state es) fs
   text_more es fs = ap (transcript_text h) (entries_more es fs) ∙ transcript_text-append h (entries es) (entries_from policies (state es) fs)

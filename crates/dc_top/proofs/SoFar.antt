@@ -1,5 +1,5 @@
 -- A run after its first lines, and one more line.
-use Rattle.std.proofs.Common.{ℕ, ◌≡◌, ◌≢◌, ◌+◌, ◌≤◌, ◌⊎◌, ◌++◌, true, List, [], ◌∷◌, Option, Some, None, length, refl, sym, ap, ◌∙◌, subst, arith, inl, inr, append_assoc, append-nil}
+use Rattle.std.proofs.Common.{ℕ, ◌≡◌, ◌≢◌, ◌+◌, ◌≤◌, ◌⊎◌, ◌++◌, true, List, [], ◌∷◌, Option, Some, None, length, take, refl, sym, ap, ◌∙◌, subst, arith, inl, inr, append_assoc, append-nil}
 use Rattle.std.specs.Prelude.{IfSome}
 use Rattle.std.specs.List.{AllByRecursion, flat_map}
 use Rattle.std.specs.Io.KnownBytes.{Appends, IsAtEnd, prepend_known}
@@ -12,7 +12,7 @@ use Rattle.dc_base.specs.declared.events.Event.{Event}
 use Rattle.dc_outside.specs.Octets.{AppendsFront}
 use Rattle.dc_text.specs.Lines.{GivesLine, IsCutOff, line_of, span}
 use Rattle.transcript.specs.Claims.{IsFaithful}
-use Rattle.transcript.specs.Text.{header_text, ended}
+use Rattle.transcript.specs.Text.{header_text, ended, lines_text}
 use Rattle.transcript.specs.Transcript.{Entry, entry_lines, transcript_text}
 use Rattle.transcript.proofs.OnEach.{each_append}
 use Rattle.script_text.specs.Scripts.{IsScriptHeader}
@@ -21,13 +21,12 @@ use Rattle.script_text.specs.declared.scripted.Scripted.TheVariants.{One, Drain}
 use Rattle.dc_world.specs.Run.{Kept, IsGood, is_built, entry_of, entries_from, counted, IsWithin}
 use Rattle.dc_top.specs.Script.{HasRead, HasBadHeader, HasBadLine, HasUnbuiltLine, IsBuilt, IsInRange, IsTaken, IsTooLong, IsUnread, IsUnreadHeader, IsUnreadLine, line_text, most_line, most_octets}
 use Rattle.dc_top.specs.Steps.{policies, start, kept_after_all, events_text, AreEventsOf, AreBegun, HasRun, HasStopped, HasStoppedIn, HasEndedAt, IsUnbuilt, IsUnwritten}
-use Rattle.dc_top.specs.Run.{IsTranscriptOf, no_lines, one_more, IsFrontOf, whole, part, RanTo}
-use Rattle.dc_top.specs.Ended.{HasEnded, IsRunOfFront, IsRunAhead, PassesLimit}
+use Rattle.dc_top.specs.Run.{AreFirstEntriesOf, IsTranscriptOf, no_lines, one_more, IsFrontOf, whole, part, IsNextOf, next, RanTo, RanUpTo}
+use Rattle.dc_top.specs.Ended.{HasEnded, IsAhead, IsCutInEvent, IsCutInHeader, PassesLimit}
 use Rattle.dc_top.proofs.Promised.{AreGood, run_faithful}
 use Rattle.dc_top.proofs.Texts.{transcript_text-none}
-use Rattle.dc_top.proofs.Fronts.{front_after}
-use Rattle.dc_top.proofs.Lines.{kept, entries, state, begun_good, events_begun, kept-more, entries_more, text_more, are_entries, are_first}
-use Rattle.dc_top.proofs.Worlds.{entries-next}
+use Rattle.dc_top.proofs.Lines.{kept, entries, state, begun_good, events_begun, kept-more, state_more, entries_more, text_more, are_entries, are_first}
+use Rattle.dc_top.proofs.Worlds.{entries-next, within_front}
 use Rattle.dc_top.proofs.Taken.{IsAtRest, ReadsOn, reads_first, reads_more, not_far, few_lines}
 
 -- the header and these lines were run: the world, and what was put out before and after
@@ -184,25 +183,89 @@ module _ (h : Header) (lines : List Scripted) (k : Kept) (old mid : Option (List
     written_part new es more =
         subst (Appends old new) (text_is es) (Appends-trans old mid new (transcript_text h (entries h s.events)) (events_text k.state es) s.written more)
 
+    -- the next entry, after a front of the line's events
+    next_entry : List Event → Event → Entry
+    next_entry es e = entry_of policies (state h (s.events ++ es)) e
+
+    entries_one_more : (es : List Event) (e : Event) → entries h (s.events ++ (es ++ e ∷ [])) ≡ entries h (s.events ++ es) ++ next_entry es e ∷ []
+    unfolding next_entry
+    entries_one_more es e = ap (entries h) (sym (append_assoc s.events es (e ∷ []))) ∙ entries-next _ (s.events ++ es) e
+
+    -- the line's entries from the end of the lines before it
+    own_entries : List Event → List Entry
+    own_entries es = entries_from policies (state h s.events) es
+
+    own_one_more : (es : List Event) (e : Event) → own_entries (es ++ e ∷ []) ≡ own_entries es ++ next_entry es e ∷ []
+    unfolding own_entries next_entry
+    own_one_more es e =
+        entries-next (state h s.events) es e ∙ ap (λ w. own_entries es ++ entry_of policies w e ∷ []) (sym (state_more h s.events es))
+
+    next_of : (es : List Event) (e : Event) → AreBegun line k (es ++ e ∷ []) → IsNextOf (lines ++ line ∷ []) (entries h (s.events ++ es)) (next_entry es e)
+    unfolding own_entries
+    next_of es e begun =
+        subst (λ t. IsNextOf (lines ++ line ∷ []) t (next_entry es e)) (sym (entries_more h s.events es))
+        (next lines (entries h s.events) line (own_entries es) (next_entry es e) s.transcript
+        (subst (AreFirstEntriesOf line (entries h s.events)) (own_one_more es e)
+        (are_first h line s.events (es ++ e ∷ []) s.sound (subst (λ x. AreBegun line x (es ++ e ∷ [])) s.world begun))))
+
+    counts_are : (es : List Event) (e : Event) → counted (kept_after_all k (es ++ e ∷ [])).lines ≡ counted (flat_map entry_lines (entries h (s.events ++ es) ++ next_entry es e ∷ []))
+    counts_are es e =
+        ap (λ (x : Kept). counted x.lines) (world_is (es ++ e ∷ [])) ∙ ap (λ t. counted (flat_map entry_lines t)) (entries_one_more es e)
+
+    ran_up_to : (input rest : List ℕ) (es : List Event) (e : Event) → HasRead input h (lines ++ line ∷ []) rest → IsBuilt line → AreBegun line k es → AreBegun line k (es ++ e ∷ [])
+        → IsWithin (counted (kept_after_all k es).lines) → RanUpTo (next_entry es e) input rest (transcript_text h (entries h (s.events ++ es)))
+    ran_up_to input rest es e read built begun more within = record {
+      header = h;
+      lines = lines ++ line ∷ [];
+      entries = entries h (s.events ++ es);
+      good = s.good;
+      taken = taken_more built;
+      read = read;
+      next = next_of es e more;
+      faithful = subst (IsFaithful h policies) (entries_one_more es e) (run_faithful policies h (s.events ++ (es ++ e ∷ [])) (sound_more (es ++ e ∷ []) built more));
+      within = subst (λ (x : Kept). IsWithin (counted x.lines)) (world_is es) within;
+      spelled = refl;
+    }
+
     past_limit : (input rest : List ℕ) (es : List Event) (e : Event) → HasRead input h (lines ++ line ∷ []) rest → IsBuilt line → AreBegun line k es → AreBegun line k (es ++ e ∷ [])
         → IsWithin (counted (kept_after_all k es).lines) → (IsWithin (counted (kept_after_all k (es ++ e ∷ [])).lines) → ⊥)
         → PassesLimit input (transcript_text h (entries h (s.events ++ es)))
-    past_limit input rest es e read built begun next within past =
-        let one = entry_of policies (state h (s.events ++ es)) e in
-        let more : entries h (s.events ++ (es ++ e ∷ [])) ≡ entries h (s.events ++ es) ++ one ∷ [] =
-        ap (entries h) (sym (append_assoc s.events es (e ∷ []))) ∙ entries-next _ (s.events ++ es) e in
-        record {
-          rest = rest;
-          ran = ran_part input rest es read built begun within;
-          entry = one;
-          next = subst (IsFrontOf (lines ++ line ∷ [])) more (front_of (es ++ e ∷ []) next);
-          faithful = subst (λ t. IsFaithful h policies t) more (run_faithful policies h (s.events ++ (es ++ e ∷ [])) (sound_more (es ++ e ∷ []) built next));
-          past = λ w. past (subst (λ (x : Kept). IsWithin (counted x.lines)) (sym (world_is (es ++ e ∷ []))) (subst (λ t. IsWithin (counted (flat_map entry_lines t))) (sym more) w));
-        }
+    unfolding ran_up_to
+    past_limit input rest es e read built begun more within past =
+        (rest, next_entry es e, ran_up_to input rest es e read built begun more within, λ w. past (subst IsWithin (sym (counts_are es e)) w))
+
+    -- a front of the next entry's text, after the text before it
+    written_front : (new : Option (List ℕ)) (es : List Event) (e : Event) (n : ℕ) → Appends mid new (events_text k.state es ++ take n (events_text (kept_after_all k es).state (e ∷ [])))
+        → Appends old new (transcript_text h (entries h (s.events ++ es)) ++ take n (lines_text (entry_lines (next_entry es e))))
+    unfolding next_entry
+    written_front new es e n more =
+        let whole = transcript_text h (entries h s.events) in
+        let own : events_text (kept_after_all k es).state (e ∷ []) ≡ lines_text (entry_lines (next_entry es e)) =
+        ap (λ (x : Kept). events_text x.state (e ∷ [])) (world_is es) ∙ ap lines_text (append-nil (entry_lines (next_entry es e))) in
+        subst (Appends old new)
+        (sym (append_assoc whole (events_text k.state es) (take n (events_text (kept_after_all k es).state (e ∷ []))))
+        ∙ ap (λ t. t ++ take n (events_text (kept_after_all k es).state (e ∷ []))) (text_is es)
+        ∙ ap (λ t. transcript_text h (entries h (s.events ++ es)) ++ take n t) own)
+        (Appends-trans old mid new whole (events_text k.state es ++ take n (events_text (kept_after_all k es).state (e ∷ []))) s.written more)
+
+    cut_in_event : (input rest : List ℕ) (left new : Option (List ℕ)) (es : List Event) (e : Event) (n : ℕ) → HasRead input h (lines ++ line ∷ []) rest → IsAhead rest left
+        → IsBuilt line → AreBegun line k es → AreBegun line k (es ++ e ∷ []) → IsWithin (counted (kept_after_all k (es ++ e ∷ [])).lines)
+        → Appends mid new (events_text k.state es ++ take n (events_text (kept_after_all k es).state (e ∷ [])))
+        → IsCutInEvent input left old new
+    unfolding ran_up_to
+    cut_in_event input rest left new es e n read near built begun more within written = record {
+      entry = next_entry es e;
+      rest = rest;
+      text = transcript_text h (entries h (s.events ++ es));
+      ran = ran_up_to input rest es e read built begun more (within_front k es e within);
+      within = subst IsWithin (counts_are es e) within;
+      front = n;
+      put_out = written_front new es e n written;
+      ahead = near;
+    }
 
     stopped_in : (st : Status) (input rest : List ℕ) (left new : Option (List ℕ)) → HasRead input h (lines ++ line ∷ []) rest
-        → (unread : List ℕ) × (left ≡ Some unread) × (length rest ≤ 65536 + length unread)
-        → HasStoppedIn st line k mid new → HasEnded input st left old new
+        → IsAhead rest left → HasStoppedIn st line k mid new → HasEnded input st left old new
     stopped_in status.Ok input rest left new read near p = absurd p.stopped
     stopped_in status.Usage input rest left new read near p = absurd p.stopped
     stopped_in (status.BadLine number column) input rest left new read near p = absurd p.stopped
@@ -219,17 +282,7 @@ module _ (h : Header) (lines : List Scripted) (k : Kept) (old mid : Option (List
       written_part new p.before p.stopped.2,
     )
     stopped_in status.WriteFault input rest left new read near p =
-        let es = p.before ++ p.event ∷ [] in (
-          transcript_text h (entries h (s.events ++ es)),
-          record {
-            rest = rest;
-            ran = ran_part input rest es read p.built p.next p.stopped.0;
-            unread = near.0;
-            told = near.1;
-            ahead = near.2;
-          },
-          front_after old mid new (transcript_text h (entries h s.events)) (events_text k.state es) (transcript_text h (entries h (s.events ++ es))) (text_is es) s.written p.stopped.1,
-        )
+        inr (cut_in_event input rest left new p.before p.event p.stopped.0 read near p.built p.begun p.next p.stopped.1 p.stopped.2)
 
     unbuilt_at : (input rest : List ℕ) (left new : Option (List ℕ)) → HasRead input h lines rest → rest ≢ [] → line_text line ≡ line_of rest → IsUnbuilt line → Appends mid new []
         → HasEnded input status.NotBuilt left old new
@@ -245,7 +298,7 @@ module _ (h : Header) (lines : List Scripted) (k : Kept) (old mid : Option (List
         → HasEndedAt st line k mid new → HasEnded input st left old new
     ended_at st input held now now' left new passed passed' before gives after is few ended = by_status st ended
       where
-        near : (unread : List ℕ) × (left ≡ Some unread) × (length after.rest ≤ 65536 + length unread)
+        near : IsAhead after.rest left
         near = not_far held left after.rest (sym is ∙ after.told) few
 
         known : GivesLine (Some before.rest) now' (line_text line)
@@ -285,28 +338,7 @@ unwritten_header status.TooLong h input held now left old new passed good r is f
 unwritten_header status.NotBuilt h input held now left old new passed good r is few un = absurd un
 unwritten_header status.Memory h input held now left old new passed good r is few un = ([], inl refl, un)
 unwritten_header status.WriteFault h input held now left old new passed good r is few un =
-    let near = not_far held left r.rest (sym is ∙ r.told) few in (
-      transcript_text h [],
-      record {
-        rest = r.rest;
-        ran = record {
-          header = h;
-          lines = [];
-          entries = [];
-          good = good;
-          taken = tt;
-          read = r.read;
-          transcript = whole [] [] no_lines;
-          faithful = run_faithful policies h [] tt;
-          within = within_nothing;
-          spelled = refl;
-        };
-        unread = near.0;
-        told = near.1;
-        ahead = near.2;
-      },
-      subst (AppendsFront old new) (sym (transcript_text-none h)) un,
-    )
+    inl (record { header = h; good = good; rest = r.rest; read = r.read; put_out = un; ahead = not_far held left r.rest (sym is ∙ r.told) few })
 
 -- ---- the loop over lines
 

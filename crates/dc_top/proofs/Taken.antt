@@ -12,6 +12,7 @@ use Rattle.dc_text.specs.Lines.{GivesLine, is_line_feed, line_of, rest_of, span}
 use Rattle.transcript.specs.Text.{header_text, ended}
 use Rattle.script_text.specs.declared.scripted.Scripted.{Scripted}
 use Rattle.dc_top.specs.Script.{HasRead, line_text, script_text, most_octets}
+use Rattle.dc_top.specs.Ended.{IsAhead, most_ahead}
 use Rattle.dc_top.proofs.Texts.{script_text-none, script_text-next, script_long}
 
 -- the octets of the first line, with its LF if it has one
@@ -132,12 +133,11 @@ reads_more (Some input) h lines line now now' old new r gives counted short =
     (subst (λ o. IfSome o (λ octets. new ≡ old + span octets)) r.told counted) short
 
 -- what was held and not handed out is one read at most
-pub not_far : (held : List ℕ) (left : Option (List ℕ)) (rest : List ℕ) → prepend_known held left ≡ Some rest → length held ≤ 65536
-    → (unread : List ℕ) × (left ≡ Some unread) × (length rest ≤ 65536 + length unread)
+pub not_far : (held : List ℕ) (left : Option (List ℕ)) (rest : List ℕ) → prepend_known held left ≡ Some rest → length held ≤ most_ahead → IsAhead rest left
 not_far held None rest is few = absurd (none-some rest is)
 not_far held (Some xs) rest is few =
     let n : length (held ++ xs) ≡ length rest = ap (λ (l : List ℕ). length l) (same_Some (held ++ xs) rest is) in
-    (xs, refl, omega (arith, n, length-append held xs))
+    record { unread = xs; told = refl; few = omega (arith, n, length-append held xs) }
 
 -- so many lines as that are within the limit
 pub few_lines : (input : List ℕ) (h : Header) (lines : List Scripted) (rest : List ℕ) → HasRead input h lines rest → length lines ≤ most_octets

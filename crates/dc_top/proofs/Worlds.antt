@@ -19,9 +19,8 @@ use Rattle.script_text.specs.declared.scripted.Scripted.TheVariants.{One, Drain}
 use Rattle.dc_world.specs.Links.{first_nonempty}
 use Rattle.dc_world.specs.Run.{WorldState, Kept, new_world, happen, entry_of, world_after, entries_from, kept_after, counted, Counted, is_event, is_built, IsWithin}
 use Rattle.dc_base.specs.declared.events.Line.TheVariants as line
-use Rattle.dc_world.proofs.Counting.{events_grow, events_next}
+use Rattle.dc_world.proofs.Counting.{counted-append, sum_of_counts, events_grow, events_next}
 use Rattle.dc_top.specs.Steps.{policies, kept_after_all, events_text, IsFirstStep, AreFirstSteps, HasRun, HasStopped, HasStoppedDraining, HasStoppedIn, HasEndedAt, IsUnwritten}
-use Rattle.dc_top.proofs.Fronts.{front_after}
 use Rattle.dc_top.proofs.Texts.{entries_text-append, transcript_text-append}
 
 -- ---- one event after others
@@ -29,6 +28,10 @@ use Rattle.dc_top.proofs.Texts.{entries_text-append, transcript_text-append}
 pub world_after-next : (w : WorldState) (es : List Event) (e : Event) → world_after policies w (es ++ e ∷ []) ≡ (happen policies (world_after policies w es) e).0
 world_after-next w [] e = refl
 world_after-next w (x ∷ es) e = world_after-next (happen policies w x).0 es e
+
+pub world_after-append : (w : WorldState) (es fs : List Event) → world_after policies w (es ++ fs) ≡ world_after policies (world_after policies w es) fs
+world_after-append w [] fs = refl
+world_after-append w (x ∷ es) fs = world_after-append (happen policies w x).0 es fs
 
 pub entries-next : (w : WorldState) (es : List Event) (e : Event)
     → entries_from policies w (es ++ e ∷ []) ≡ entries_from policies w es ++ entry_of policies (world_after policies w es) e ∷ []
@@ -89,7 +92,7 @@ unwritten_stopped (Err status.Usage) k e text old new is before after un = un
 unwritten_stopped (Err (status.BadLine line column)) k e text old new is before after un = un
 unwritten_stopped (Err status.ReadFault) k e text old new is before after un = un
 unwritten_stopped (Err status.WriteFault) k e text old new is before after un =
-    (after, (un.0, subst (λ t. Appends old new (take un.0 t)) is un.1))
+    (un.0, after, subst (λ t. Appends old new (take un.0 t)) is un.1)
 unwritten_stopped (Err status.Memory) k e text old new is before after un = (before, un)
 unwritten_stopped (Err status.TooLong) k e text old new is before after un = absurd un
 unwritten_stopped (Err status.NotBuilt) k e text old new is before after un = un
@@ -127,12 +130,11 @@ stopped_after status.TooLong k m es e a b c p q =
       subst (Appends a c) (append-nil (events_text k.state es)) (Appends-trans a b c (events_text k.state es) [] p.written q.2),
     )
 stopped_after status.WriteFault k m es e a b c p q =
-    let next : kept_after_all m (e ∷ []) ≡ kept_after_all k (es ++ e ∷ []) = ap (λ x. kept_after_all x (e ∷ [])) p.world ∙ sym (kept-append k es (e ∷ [])) in
-    let state : m.state ≡ world_after policies k.state es = ap (λ (x : Kept). x.state) p.world ∙ kept_state k es in
-    let text : events_text k.state es ++ events_text m.state (e ∷ []) ≡ events_text k.state (es ++ e ∷ []) =
-    ap (λ w. events_text k.state es ++ events_text w (e ∷ [])) state ∙ sym (events_text-append k.state es (e ∷ [])) in (
-      subst (λ (x : Kept). IsWithin (counted x.lines)) next q.0,
-      front_after a b c (events_text k.state es) (events_text m.state (e ∷ [])) (events_text k.state (es ++ e ∷ [])) text p.written q.1,
+    let next : kept_after_all m (e ∷ []) ≡ kept_after_all k (es ++ e ∷ []) = ap (λ x. kept_after_all x (e ∷ [])) p.world ∙ sym (kept-append k es (e ∷ [])) in (
+      q.0,
+      subst (λ (x : Kept). IsWithin (counted x.lines)) next q.1,
+      subst (λ (x : Kept). Appends a c (events_text k.state es ++ take q.0 (events_text x.state (e ∷ [])))) p.world
+          (Appends-trans a b c (events_text k.state es) (take q.0 (events_text m.state (e ∷ []))) p.written q.2),
     )
 
 -- ---- the ends of lines
@@ -199,3 +201,12 @@ one_event_more k e =
     let t : (counted ((k.lines ++ line.Event e ∷ []) ++ (line.Answer (entry_of policies k.state e).answer ∷ (entry_of policies k.state e).lines))).events
         ≡ (counted (kept_after policies k e).lines).events = ap (λ (l : List Line). (counted l).events) same in
     omega (arith, n, m, t)
+
+-- events before one that is within the limits are
+pub within_front : (k : Kept) (es : List Event) (e : Event) → IsWithin (counted (kept_after_all k (es ++ e ∷ [])).lines) → IsWithin (counted (kept_after_all k es).lines)
+within_front k es e within =
+    let m = kept_after_all k es in
+    let own = entry_lines (entry_of policies m.state e) in
+    let whole : IsWithin (counted (m.lines ++ own)) = subst (λ (x : Kept). IsWithin (counted x.lines)) (kept-append k es (e ∷ [])) within in
+    let sum : IsWithin (sum_of_counts (counted m.lines) (counted own)) = subst IsWithin (counted-append m.lines own) whole in
+    record { events = omega arith; flights = omega arith; octets = omega arith }

@@ -1,17 +1,18 @@
 -- How a run of some octets ends, by its status, and what it has written then.
-use Rattle.std.specs.Prelude.{◌≡◌, ℕ, ◌+◌, ◌≤◌, ◌⊎◌, List, [], ◌∷◌, ◌++◌, length, Option, Some}
+use Rattle.std.specs.Prelude.{◌≡◌, ℕ, ◌+◌, ◌≤◌, ◌⊎◌, List, [], ◌∷◌, ◌++◌, length, take, Option, Some}
 use Rattle.std.specs.List.{flat_map}
 use Rattle.std.specs.Io.KnownBytes.{Appends}
 use Rattle.dc_base.specs.declared.answers.Status.{Status}
 use Rattle.dc_base.specs.declared.answers.Status.TheVariants as status
+use Rattle.dc_base.specs.declared.events.Header.{Header}
 use Rattle.dc_outside.specs.Octets.{AppendsFront}
 use Rattle.dc_text.specs.Lines.{IsCutOff}
+use Rattle.transcript.specs.Text.{header_text, ended, lines_text}
 use Rattle.transcript.specs.Transcript.{Entry, entry_lines}
-use Rattle.transcript.specs.Claims.{IsFaithful}
+use Rattle.script_text.specs.Scripts.{IsScriptHeader}
 use Rattle.dc_world.specs.Run.{counted, IsWithin}
-use Rattle.dc_top.specs.Script.{HasBadHeader, HasBadLine, HasUnbuiltLine, IsTooLong}
-use Rattle.dc_top.specs.Steps.{policies}
-use Rattle.dc_top.specs.Run.{IsTranscriptOf, IsFrontOf, RanTo}
+use Rattle.dc_top.specs.Script.{HasRead, HasBadHeader, HasBadLine, HasUnbuiltLine, IsTooLong}
+use Rattle.dc_top.specs.Run.{IsTranscriptOf, IsFrontOf, RanTo, RanUpTo}
 
 -- line 1 is bad and nothing is written, or a later line is, after a run of the lines before it
 abbrev pub IsBadAt : List ℕ → ℕ → ℕ → List ℕ → Type 0
@@ -29,13 +30,9 @@ IsCutOffAt input text left =
     ((text ≡ []) × IsCutOff (Some input) left) ⊎ ((rest : List ℕ) × RanTo IsTranscriptOf input rest text × IsCutOff (Some rest) left)
 
 -- the next event passes a limit of the counts
-pub record PassesLimit (input text : List ℕ) : Type 0 where
-  pub rest : List ℕ
-  pub ran : RanTo IsFrontOf input rest text
-  pub entry : Entry
-  pub next : IsFrontOf ran.lines (ran.entries ++ entry ∷ [])
-  pub faithful : IsFaithful ran.header policies (ran.entries ++ entry ∷ [])
-  pub past : IsWithin (counted (flat_map entry_lines (ran.entries ++ entry ∷ []))) → ⊥
+abbrev pub PassesLimit : List ℕ → List ℕ → Type 0
+PassesLimit input text =
+    (rest : List ℕ) × (e : Entry) × (ran : RanUpTo e input rest text) × (IsWithin (counted (flat_map entry_lines (ran.entries ++ e ∷ []))) → ⊥)
 
 -- a limit is passed: by line 1, by a later line, or by an event
 abbrev pub IsTooLongAt : List ℕ → List ℕ → Type 0
@@ -52,14 +49,31 @@ IsRunOfFront input text = (text ≡ []) ⊎ ((rest : List ℕ) × RanTo IsFrontO
 abbrev pub most_ahead : ℕ
 most_ahead = 65536
 
--- a run of a front of the lines, the last of which is the first whose text may not be whole in what was put out; past
--- that line at most one read was taken from the source
-pub record IsRunAhead (input text : List ℕ) (left : Option (List ℕ)) : Type 0 where
-  pub rest : List ℕ
-  pub ran : RanTo IsFrontOf input rest text
+-- past the octets before this rest at most one read was taken from the source
+pub record IsAhead (rest : List ℕ) (left : Option (List ℕ)) : Type 0 where
   pub unread : List ℕ
   pub told : left ≡ Some unread
-  pub ahead : length rest ≤ most_ahead + length unread
+  pub few : length rest ≤ most_ahead + length unread
+
+-- a front of the line of the header was put out, and no line after it was needed
+pub record IsCutInHeader (input : List ℕ) (left old new : Option (List ℕ)) : Type 0 where
+  pub header : Header
+  pub good : IsScriptHeader header
+  pub rest : List ℕ
+  pub read : HasRead input header [] rest
+  pub put_out : AppendsFront old new (ended (header_text header))
+  pub ahead : IsAhead rest left
+
+-- the whole text before an event, and a front of the event's own, were put out, and no line after the event's was needed
+pub record IsCutInEvent (input : List ℕ) (left old new : Option (List ℕ)) : Type 0 where
+  pub entry : Entry
+  pub rest : List ℕ
+  pub text : List ℕ
+  pub ran : RanUpTo entry input rest text
+  pub within : IsWithin (counted (flat_map entry_lines (ran.entries ++ entry ∷ [])))
+  pub front : ℕ
+  pub put_out : Appends old new (text ++ take front (lines_text (entry_lines entry)))
+  pub ahead : IsAhead rest left
 
 -- what is said of the octets put out before and after a run of these octets that ended so, with these left at the source
 abbrev pub HasEnded : List ℕ → Status → Option (List ℕ) → Option (List ℕ) → Option (List ℕ) → Type 0
@@ -69,5 +83,5 @@ HasEnded input status.NotBuilt left old new = (text : List ℕ) × IsUnbuiltAt i
 HasEnded input status.ReadFault left old new = (text : List ℕ) × IsCutOffAt input text left × Appends old new text
 HasEnded input status.TooLong left old new = (text : List ℕ) × IsTooLongAt input text × Appends old new text
 HasEnded input status.Memory left old new = (text : List ℕ) × IsRunOfFront input text × Appends old new text
-HasEnded input status.WriteFault left old new = (text : List ℕ) × IsRunAhead input text left × AppendsFront old new text
+HasEnded input status.WriteFault left old new = IsCutInHeader input left old new ⊎ IsCutInEvent input left old new
 HasEnded input status.Usage left old new = ⊥

@@ -43,6 +43,11 @@ pub data IsFrontOf : List Scripted → List Entry → Type 0 where
   part : (lines : List Scripted) (before : List Entry) (line : Scripted) (es : List Entry) → IsTranscriptOf lines before
     → AreFirstEntriesOf line before es → IsFrontOf (lines ++ line ∷ []) (before ++ es)
 
+-- so they are, but the last line has a front of its entries alone, and this is its next one
+pub data IsNextOf : List Scripted → List Entry → Entry → Type 0 where
+  next : (lines : List Scripted) (before : List Entry) (line : Scripted) (es : List Entry) (e : Entry) → IsTranscriptOf lines before
+    → AreFirstEntriesOf line before (es ++ e ∷ []) → IsNextOf (lines ++ line ∷ []) (before ++ es) e
+
 -- a run of the header and the first lines of some octets, of which this rest is left: its entries, whole or a front of
 -- them, meet all claims and are within the limits, and this is their text
 pub record RanTo (Of : List Scripted → List Entry → Type 0) (input rest text : List ℕ) : Type 0 where
@@ -54,5 +59,19 @@ pub record RanTo (Of : List Scripted → List Entry → Type 0) (input rest text
   pub read : HasRead input header lines rest
   pub transcript : Of lines entries
   pub faithful : IsFaithful header policies entries
+  pub within : IsWithin (counted (flat_map entry_lines entries))
+  pub spelled : text ≡ transcript_text header entries
+
+-- a run of the header and the first lines of some octets up to the next entry of the last of these lines: its entries
+-- before that one are within the limits, and this is their text; with the one they meet all claims
+pub record RanUpTo (e : Entry) (input rest text : List ℕ) : Type 0 where
+  pub header : Header
+  pub lines : List Scripted
+  pub entries : List Entry
+  pub good : IsScriptHeader header
+  pub taken : AllByRecursion IsTaken lines
+  pub read : HasRead input header lines rest
+  pub next : IsNextOf lines entries e
+  pub faithful : IsFaithful header policies (entries ++ e ∷ [])
   pub within : IsWithin (counted (flat_map entry_lines entries))
   pub spelled : text ≡ transcript_text header entries

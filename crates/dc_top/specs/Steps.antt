@@ -1,5 +1,5 @@
 -- Events given to a world, one after another, and their lines written.
-use Rattle.std.specs.Prelude.{◌≡◌, ℕ, ◌⊎◌, true, List, [], ◌∷◌, ◌++◌, Option, Some, None, ⊤}
+use Rattle.std.specs.Prelude.{◌≡◌, ℕ, ◌⊎◌, true, List, [], ◌∷◌, ◌++◌, take, Option, Some, None, ⊤}
 use Rattle.std.specs.List.{flat_map}
 use Rattle.std.specs.Io.KnownBytes.{Appends}
 use Rattle.dc_base.specs.declared.answers.Status.{Status}
@@ -74,7 +74,8 @@ HasStopped status.Memory k es e old new = IsWithin (counted (kept_after_all k es
 HasStopped status.TooLong k es e old new =
     IsWithin (counted (kept_after_all k es).lines) × (IsWithin (counted (kept_after_all k (es ++ e ∷ [])).lines) → ⊥) × Appends old new (events_text k.state es)
 HasStopped status.WriteFault k es e old new =
-    IsWithin (counted (kept_after_all k (es ++ e ∷ [])).lines) × AppendsFront old new (events_text k.state (es ++ e ∷ []))
+    (n : ℕ) × IsWithin (counted (kept_after_all k (es ++ e ∷ [])).lines)
+    × Appends old new (events_text k.state es ++ take n (events_text (kept_after_all k es).state (e ∷ [])))
 HasStopped _ k es e old new = ⊥
 
 -- a run ended so in the steps of a drain
