@@ -18,7 +18,7 @@ use Rattle.dc_base.specs.declared.events.Note.TheVariants as note
 use Rattle.transcript.specs.Content.{mt_ctl, tm_ctl}
 use Rattle.transcript.specs.Bearers.{Established, master_key}
 use Rattle.transcript.specs.Claims.{is_mm}
-use Rattle.dc_world.specs.Entities.{Entities, Table, fresh, no_bearers, bearer_in, with_bearer}
+use Rattle.dc_world.specs.Entities.{Table, fresh, no_bearers, bearer_in, with_bearer}
 use Rattle.dc_world.specs.Plane.{Outcome}
 
 -- the master and the terminal: the last generation drawn, the one whose command is open, and the bearers of each node

@@ -14,3 +14,6 @@ mod world;
 
 pub use counted::Counts;
 pub use world::{World, is_built};
+
+#[cfg(test)]
+mod tests;
