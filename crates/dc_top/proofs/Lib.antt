@@ -1,5 +1,4 @@
 pub mod Forms
-pub mod Promised
 pub mod Texts
 pub mod Worlds
 pub mod Taken

@@ -16,7 +16,7 @@ use Rattle.dc_world.specs.Run.{WorldState, Kept, new_world, happen, entry_of, wo
 use Rattle.dc_top.specs.Script.{IsInRange, IsBuilt}
 use Rattle.dc_top.specs.Steps.{policies, kept_after_all, events_text, IsFirstStep, AreFirstSteps, AreEventsOf, AreBegun}
 use Rattle.dc_top.specs.Run.{IsDrainStep, AreEntriesOf, AreFirstEntriesOf}
-use Rattle.dc_top.proofs.Promised.{AreGood, first_loaded_is}
+use Rattle.dc_world.proofs.Faithful.{AreGood, first_loaded_is}
 use Rattle.dc_top.proofs.Texts.{transcript_text-append}
 use Rattle.dc_top.proofs.Worlds.{world_after-next, world_after-append, entries-next, entries-append, kept_state}
 

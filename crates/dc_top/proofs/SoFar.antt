@@ -23,7 +23,7 @@ use Rattle.dc_top.specs.Script.{HasRead, HasBadHeader, HasBadLine, HasUnbuiltLin
 use Rattle.dc_top.specs.Steps.{policies, start, kept_after_all, events_text, AreEventsOf, AreBegun, HasRun, HasStopped, HasStoppedIn, HasEndedAt, IsUnbuilt, IsUnwritten}
 use Rattle.dc_top.specs.Run.{AreFirstEntriesOf, IsTranscriptOf, no_lines, one_more, IsFrontOf, whole, part, IsNextOf, next, RanTo, RanUpTo}
 use Rattle.dc_top.specs.Ended.{HasEnded, IsAhead, IsCutInEvent, IsCutInHeader, PassesLimit}
-use Rattle.dc_top.proofs.Promised.{AreGood, run_faithful}
+use Rattle.dc_world.proofs.Faithful.{AreGood, run_faithful}
 use Rattle.dc_top.proofs.Texts.{transcript_text-none}
 use Rattle.dc_top.proofs.Lines.{kept, entries, state, begun_good, events_begun, kept-more, state_more, entries_more, text_more, are_entries, are_first}
 use Rattle.dc_top.proofs.Worlds.{entries-next, within_front}
