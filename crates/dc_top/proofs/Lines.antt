@@ -1,6 +1,6 @@
 -- Events of lines: that a world takes them, and that their entries are those of the lines.
-use Rattle.std.proofs.Common.{ℕ, ◌≡◌, ◌+◌, ◌-◌, ◌^◌, ◌<◌, ◌≤◌, ◌⊎◌, ◌++◌, Bool, true, false, List, [], ◌∷◌, Option, Some, None, length, map, refl, sym, ap, ◌∙◌, subst, arith, inl, inr, append_assoc, append-nil}
-use Rattle.std.specs.List.{AllByRecursion, flat_map}
+use Rattle.std.proofs.Common.{◌≡◌, ◌+◌, ◌-◌, ◌++◌, true, List, [], ◌∷◌, map, refl, sym, ap, ◌∙◌, subst, arith, inl, inr, append_assoc, append-nil}
+use Rattle.std.specs.List.{flat_map}
 use Rattle.std.proofs.lemmas.Grind.{flat_map-append}
 use Rattle.dc_base.specs.declared.events.Header.{Header}
 use Rattle.dc_base.specs.declared.events.Event.{Event}
@@ -14,11 +14,11 @@ use Rattle.script_text.specs.declared.scripted.Scripted.TheVariants.{One, Drain}
 use Rattle.dc_world.specs.Links.{first_nonempty}
 use Rattle.dc_world.specs.Run.{WorldState, Kept, new_world, happen, entry_of, world_after, entries_from, kept_after, IsGood, is_built}
 use Rattle.dc_top.specs.Script.{IsInRange, IsBuilt}
-use Rattle.dc_top.specs.Steps.{policies, kept_after_all, events_text, IsFirstStep, AreFirstSteps, AreEventsOf, AreBegun}
+use Rattle.dc_top.specs.Steps.{policies, kept_after_all, events_text, AreFirstSteps, AreEventsOf, AreBegun}
 use Rattle.dc_top.specs.Run.{IsDrainStep, AreEntriesOf, AreFirstEntriesOf}
 use Rattle.dc_world.proofs.Faithful.{AreGood, first_loaded_is}
 use Rattle.dc_top.proofs.Texts.{transcript_text-append}
-use Rattle.dc_top.proofs.Worlds.{world_after-next, world_after-append, entries-next, entries-append, kept_state}
+use Rattle.dc_top.proofs.Worlds.{world_after-next, world_after-append, entries-next, entries-append}
 
 -- ---- events that a world takes
 
@@ -64,7 +64,7 @@ kept-next : (h : Header) (es : List Event) (e : Event) → kept_after policies (
 kept-next h es e =
     let state = sym (world_after-next (new_world h) es e) in
     let lines : flat_map entry_lines (entries_from policies (new_world h) es) ++ entry_lines (entry_of policies (world_after policies (new_world h) es) e)
-        ≡ flat_map entry_lines (entries_from policies (new_world h) (es ++ e ∷ [])) =
+    ≡ flat_map entry_lines (entries_from policies (new_world h) (es ++ e ∷ [])) =
     ap (λ l. flat_map entry_lines (entries_from policies (new_world h) es) ++ l) (sym (append-nil (entry_lines (entry_of policies (world_after policies (new_world h) es) e))))
     ∙ sym (flat_map-append entry_lines (entries_from policies (new_world h) es) (entry_of policies (world_after policies (new_world h) es) e ∷ []))
     ∙ ap (flat_map entry_lines) (sym (entries-next (new_world h) es e)) in
@@ -103,7 +103,7 @@ module _ (h : Header) where
       drain_steps (es ++ f ∷ []) fs more (subst (λ w. AreFirstSteps w fs) (sym next) steps.1) in (
         record { link = steps.0.link; first = first_loaded_is policies h es good ∙ steps.0.first; step = steps.0.step },
         subst (λ w. EachFrom IsDrainStep (entries es ++ entry_of policies (state es) f ∷ []) (entries_from policies w fs)) next
-        (subst (λ t. EachFrom IsDrainStep t (entries_from policies (state (es ++ f ∷ [])) fs)) (entries-next (new_world h) es f) rest),
+            (subst (λ t. EachFrom IsDrainStep t (entries_from policies (state (es ++ f ∷ [])) fs)) (entries-next (new_world h) es f) rest),
       )
 
   pub are_entries : (line : Scripted) (es fs : List Event) → AreGood es → AreGood (es ++ fs) → AreEventsOf line (kept h es) fs

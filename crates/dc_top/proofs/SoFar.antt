@@ -1,15 +1,14 @@
 -- A run after its first lines, and one more line.
-use Rattle.std.proofs.Common.{ℕ, ◌≡◌, ◌≢◌, ◌+◌, ◌≤◌, ◌⊎◌, ◌++◌, true, List, [], ◌∷◌, Option, Some, None, length, take, refl, sym, ap, ◌∙◌, subst, arith, inl, inr, append_assoc, append-nil}
+use Rattle.std.proofs.Common.{ℕ, ◌≡◌, ◌≢◌, ◌+◌, ◌≤◌, ◌++◌, true, List, [], ◌∷◌, Option, Some, length, take, refl, sym, ap, ◌∙◌, subst, arith, inl, inr, append_assoc, append-nil}
 use Rattle.std.specs.Prelude.{IfSome}
 use Rattle.std.specs.List.{AllByRecursion, flat_map}
 use Rattle.std.specs.Io.KnownBytes.{Appends, IsAtEnd, prepend_known}
-use Rattle.std.proofs.KnownBytes.{Appends-nil, Appends-trans, prepend_known-nil}
+use Rattle.std.proofs.KnownBytes.{Appends-nil, Appends-trans}
 use Rattle.std.proofs.lemmas.List.{length_push}
 use Rattle.dc_base.specs.declared.answers.Status.{Status}
 use Rattle.dc_base.specs.declared.answers.Status.TheVariants as status
 use Rattle.dc_base.specs.declared.events.Header.{Header}
 use Rattle.dc_base.specs.declared.events.Event.{Event}
-use Rattle.dc_outside.specs.Octets.{AppendsFront}
 use Rattle.dc_text.specs.Lines.{GivesLine, IsCutOff, line_of, span}
 use Rattle.transcript.specs.Claims.{IsFaithful}
 use Rattle.transcript.specs.Text.{header_text, ended, lines_text}
@@ -19,10 +18,10 @@ use Rattle.script_text.specs.Scripts.{IsScriptHeader}
 use Rattle.script_text.specs.declared.scripted.Scripted.{Scripted}
 use Rattle.script_text.specs.declared.scripted.Scripted.TheVariants.{One, Drain}
 use Rattle.dc_world.specs.Run.{Kept, IsGood, is_built, entry_of, entries_from, counted, IsWithin}
-use Rattle.dc_top.specs.Script.{HasRead, HasBadHeader, HasBadLine, HasUnbuiltLine, IsBuilt, IsInRange, IsTaken, IsTooLong, IsUnread, IsUnreadHeader, IsUnreadLine, line_text, most_line, most_octets}
-use Rattle.dc_top.specs.Steps.{policies, start, kept_after_all, events_text, AreEventsOf, AreBegun, HasRun, HasStopped, HasStoppedIn, HasEndedAt, IsUnbuilt, IsUnwritten}
+use Rattle.dc_top.specs.Script.{HasRead, HasBadHeader, HasBadLine, HasUnbuiltLine, IsBuilt, IsInRange, IsTaken, IsTooLong, IsUnreadHeader, IsUnreadLine, line_text, most_line, most_octets}
+use Rattle.dc_top.specs.Steps.{policies, start, kept_after_all, events_text, AreEventsOf, AreBegun, HasRun, HasStoppedIn, HasEndedAt, IsUnbuilt, IsUnwritten}
 use Rattle.dc_top.specs.Run.{AreFirstEntriesOf, IsTranscriptOf, no_lines, one_more, IsFrontOf, whole, part, IsNextOf, next, RanTo, RanUpTo}
-use Rattle.dc_top.specs.Ended.{HasEnded, IsAhead, IsCutInEvent, IsCutInHeader, PassesLimit}
+use Rattle.dc_top.specs.Ended.{HasEnded, IsAhead, IsCutInEvent, PassesLimit}
 use Rattle.dc_world.proofs.Faithful.{AreGood, run_faithful}
 use Rattle.dc_top.proofs.Texts.{transcript_text-none}
 use Rattle.dc_top.proofs.Lines.{kept, entries, state, begun_good, events_begun, kept-more, state_more, entries_more, text_more, are_entries, are_first}

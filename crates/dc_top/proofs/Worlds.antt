@@ -1,5 +1,5 @@
 -- Worlds after events, and the text of the entries that these make.
-use Rattle.std.proofs.Common.{ℕ, ◌≡◌, ◌+◌, ◌<◌, ◌≤◌, ◌++◌, Bool, true, false, List, [], ◌∷◌, Option, Some, None, length, drop, take, refl, sym, ap, ◌∙◌, subst, arith, inl, inr, append_assoc, append-nil}
+use Rattle.std.proofs.Common.{ℕ, ◌≡◌, ◌+◌, ◌≤◌, ◌++◌, Bool, true, List, [], ◌∷◌, Option, Some, length, drop, take, refl, sym, ap, ◌∙◌, subst, arith, inl, inr, append_assoc, append-nil}
 use Rattle.std.specs.Prelude.{◌-◌, ◌↔◌, IfErr, IsTrue, Result, Ok, Err}
 use Rattle.std.specs.List.{flat_map}
 use Rattle.std.specs.Io.KnownBytes.{Appends}
@@ -7,21 +7,20 @@ use Rattle.std.proofs.KnownBytes.{Appends-nil, Appends-trans}
 use Rattle.std.proofs.lemmas.List.{drop_at, take_rest}
 use Rattle.dc_base.specs.declared.answers.Status.{Status}
 use Rattle.dc_base.specs.declared.answers.Status.TheVariants as status
-use Rattle.dc_base.specs.declared.events.Header.{Header}
 use Rattle.dc_base.specs.declared.events.Event.{Event}
 use Rattle.dc_base.specs.declared.events.Event.TheVariants.{Step}
 use Rattle.dc_base.specs.declared.nodes.LinkId.{LinkId}
 use Rattle.dc_base.specs.declared.events.Line.{Line}
 use Rattle.transcript.specs.Text.{lines_text}
-use Rattle.transcript.specs.Transcript.{Entry, entry_lines, transcript_text}
+use Rattle.transcript.specs.Transcript.{Entry, entry_lines}
 use Rattle.script_text.specs.declared.scripted.Scripted.{Scripted}
 use Rattle.script_text.specs.declared.scripted.Scripted.TheVariants.{One, Drain}
 use Rattle.dc_world.specs.Links.{first_nonempty}
-use Rattle.dc_world.specs.Run.{WorldState, Kept, new_world, happen, entry_of, world_after, entries_from, kept_after, counted, Counted, is_event, is_built, IsWithin}
+use Rattle.dc_world.specs.Run.{WorldState, Kept, happen, entry_of, world_after, entries_from, kept_after, counted, Counted, is_built, IsWithin}
 use Rattle.dc_base.specs.declared.events.Line.TheVariants as line
 use Rattle.dc_world.proofs.Counting.{counted-append, sum_of_counts, events_grow, events_next}
-use Rattle.dc_top.specs.Steps.{policies, kept_after_all, events_text, IsFirstStep, AreFirstSteps, HasRun, HasStopped, HasStoppedDraining, HasStoppedIn, HasEndedAt, IsUnwritten}
-use Rattle.dc_top.proofs.Texts.{entries_text-append, transcript_text-append}
+use Rattle.dc_top.specs.Steps.{policies, kept_after_all, events_text, AreFirstSteps, HasRun, HasStopped, HasStoppedDraining, HasStoppedIn, HasEndedAt, IsUnwritten}
+use Rattle.dc_top.proofs.Texts.{entries_text-append}
 
 -- ---- one event after others
 
@@ -199,7 +198,7 @@ one_event_more k e =
     let same : (k.lines ++ line.Event e ∷ []) ++ (line.Answer (entry_of policies k.state e).answer ∷ (entry_of policies k.state e).lines) ≡ (kept_after policies k e).lines =
     append_assoc k.lines (line.Event e ∷ []) (line.Answer (entry_of policies k.state e).answer ∷ (entry_of policies k.state e).lines) in
     let t : (counted ((k.lines ++ line.Event e ∷ []) ++ (line.Answer (entry_of policies k.state e).answer ∷ (entry_of policies k.state e).lines))).events
-        ≡ (counted (kept_after policies k e).lines).events = ap (λ (l : List Line). (counted l).events) same in
+    ≡ (counted (kept_after policies k e).lines).events = ap (λ (l : List Line). (counted l).events) same in
     omega (arith, n, m, t)
 
 -- events before one that is within the limits are

@@ -20,8 +20,7 @@ pub record IsDrainStep (before : List Entry) (e : Entry) : Type 0 where
   pub first : first_loaded before ≡ Some link
   pub step : e.event ≡ Step link 0
 
--- the entries of a line, after the entries before it: one of its event, or those of a drain's steps, until no flight
--- stands on any link
+-- the entries of a line, after the entries before it: that of its event, or those of a drain's steps until all links are empty
 abbrev pub AreEntriesOf : Scripted → List Entry → List Entry → Type 0
 AreEntriesOf (One event) before es = map (λ e. e.event) es ≡ event ∷ []
 AreEntriesOf Drain before es = EachFrom IsDrainStep before es × (first_loaded (before ++ es) ≡ None)
@@ -35,21 +34,20 @@ AreFirstEntriesOf Drain before es = EachFrom IsDrainStep before es
 pub data IsTranscriptOf : List Scripted → List Entry → Type 0 where
   no_lines : IsTranscriptOf [] []
   one_more : (lines : List Scripted) (before : List Entry) (line : Scripted) (es : List Entry) → IsTranscriptOf lines before
-    → AreEntriesOf line before es → IsTranscriptOf (lines ++ line ∷ []) (before ++ es)
+      → AreEntriesOf line before es → IsTranscriptOf (lines ++ line ∷ []) (before ++ es)
 
 -- so they are, but the last line may have a front of its entries alone
 pub data IsFrontOf : List Scripted → List Entry → Type 0 where
   whole : (lines : List Scripted) (entries : List Entry) → IsTranscriptOf lines entries → IsFrontOf lines entries
   part : (lines : List Scripted) (before : List Entry) (line : Scripted) (es : List Entry) → IsTranscriptOf lines before
-    → AreFirstEntriesOf line before es → IsFrontOf (lines ++ line ∷ []) (before ++ es)
+      → AreFirstEntriesOf line before es → IsFrontOf (lines ++ line ∷ []) (before ++ es)
 
 -- so they are, but the last line has a front of its entries alone, and this is its next one
 pub data IsNextOf : List Scripted → List Entry → Entry → Type 0 where
   next : (lines : List Scripted) (before : List Entry) (line : Scripted) (es : List Entry) (e : Entry) → IsTranscriptOf lines before
-    → AreFirstEntriesOf line before (es ++ e ∷ []) → IsNextOf (lines ++ line ∷ []) (before ++ es) e
+      → AreFirstEntriesOf line before (es ++ e ∷ []) → IsNextOf (lines ++ line ∷ []) (before ++ es) e
 
--- a run of the header and the first lines of some octets, of which this rest is left: its entries, whole or a front of
--- them, meet all claims and are within the limits, and this is their text
+-- a run of the header and the first lines of octets, of which this rest is left, and the text of its entries, which meet all claims
 pub record RanTo (Of : List Scripted → List Entry → Type 0) (input rest text : List ℕ) : Type 0 where
   pub header : Header
   pub lines : List Scripted
@@ -62,8 +60,7 @@ pub record RanTo (Of : List Scripted → List Entry → Type 0) (input rest text
   pub within : IsWithin (counted (flat_map entry_lines entries))
   pub spelled : text ≡ transcript_text header entries
 
--- a run of the header and the first lines of some octets up to the next entry of the last of these lines: its entries
--- before that one are within the limits, and this is their text; with the one they meet all claims
+-- a run up to this entry of the last of its lines, and the text of the entries before it, which meet all claims with it
 pub record RanUpTo (e : Entry) (input rest text : List ℕ) : Type 0 where
   pub header : Header
   pub lines : List Scripted

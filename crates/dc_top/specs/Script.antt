@@ -1,6 +1,6 @@
 -- A script as octets, and how much of it was read.
-use Rattle.std.specs.Prelude.{◌≡◌, ℕ, ◌+◌, ◌*◌, ◌^◌, ◌<◌, ◌≤◌, ◌⊎◌, Bool, true, List, [], ◌∷◌, ◌++◌, length, codes, Option, Some, None, IfSome, ⊤}
-use Rattle.std.specs.List.{AllByRecursion, flat_map}
+use Rattle.std.specs.Prelude.{◌≡◌, ℕ, ◌+◌, ◌<◌, ◌≤◌, ◌⊎◌, true, List, [], ◌∷◌, ◌++◌, length, codes, Option, IfSome, ⊤}
+use Rattle.std.specs.List.{flat_map}
 use Rattle.dc_base.specs.declared.answers.Status.{Status}
 use Rattle.dc_base.specs.declared.answers.Status.TheVariants as status
 use Rattle.dc_base.specs.declared.events.Header.{Header}

@@ -67,8 +67,7 @@ pub record HasRun (k : Kept) (es : List Event) (k' : Kept) (old new : Option (Li
   pub within : IsWithin (counted k'.lines)
   pub written : Appends old new (events_text k.state es)
 
--- events were run and written, and a run ended with this status at the one after them: nothing of it was written, or a
--- front of its text where the sink failed
+-- events were run and written, and the one after them ended the run: what was put out then, by the status
 abbrev pub HasStopped : Status → Kept → List Event → Event → Option (List ℕ) → Option (List ℕ) → Type 0
 HasStopped status.Memory k es e old new = IsWithin (counted (kept_after_all k es).lines) × Appends old new (events_text k.state es)
 HasStopped status.TooLong k es e old new =

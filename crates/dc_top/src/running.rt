@@ -16,11 +16,7 @@ use std::alloc::Global;
 
 /// Runs the script that a source gives, and writes its transcript. Each line is judged once the texts of the lines
 /// before it are written.
-pub fn run_script<S: Source, K: Sink>(
-    alloc: Global,
-    src: &mut S,
-    out: &mut K,
-) -> Result<(), Status>
+pub fn run_script<S: Source, K: Sink>(alloc: Global, src: &mut S, out: &mut K) -> Result<(), Status>
     ensures ended { (input : List ℕ) → S.left src.old ≡ Some input → MatchResult result
         (λ _. HasEnded input Status.Ok (S.left src.new) (K.put_out out.old) (K.put_out out.new))
         (λ s. HasEnded input s (S.left src.new) (K.put_out out.old) (K.put_out out.new)) }

@@ -1,6 +1,6 @@
 //! The events of a line, given to the world one after another, each with its text written as it happens.
 
-ghost use Rattle.std.specs.Prelude.{◌≡◌, ◌↔◌, ℕ, List, [], ◌∷◌, true, IfErr, IsErrOf, IsTrue, None, OnOk};
+ghost use Rattle.std.specs.Prelude.{◌≡◌, ◌↔◌, List, [], ◌∷◌, true, IfErr, IsErrOf, IsTrue, None, OnOk};
 ghost use Rattle.dc_base.specs.declared.answers.Status.{Status};
 ghost use Rattle.dc_base.specs.declared.events.Event.{Event};
 ghost use Rattle.dc_outside.specs.Faults.{Rose};

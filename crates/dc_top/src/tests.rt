@@ -108,7 +108,14 @@ fn scripts_and_what_they_leave(rt: HostRuntime) -> Result<(), Fail> {
     let bad_header: &[u8] = b"dcs1 nea1 0 00\n";
     let rows: [(&[u8], u64, u64, Status, &[u8], &[u8]); 5] = [
         (SCRIPT, 0, 0, Status::Ok, TRANSCRIPT, b""),
-        (b"", 0, 0, line_1, b"", b"dc: line 1 column 1: not in the grammar\n"),
+        (
+            b"",
+            0,
+            0,
+            line_1,
+            b"",
+            b"dc: line 1 column 1: not in the grammar\n",
+        ),
         (
             bad_header,
             0,
@@ -117,7 +124,14 @@ fn scripts_and_what_they_leave(rt: HostRuntime) -> Result<(), Fail> {
             b"",
             b"dc: line 1 column 6: not in the grammar\n",
         ),
-        (SCRIPT, 2, 0, Status::ReadFault, TRANSCRIPT, b"dc: read fault\n"),
+        (
+            SCRIPT,
+            2,
+            0,
+            Status::ReadFault,
+            TRANSCRIPT,
+            b"dc: read fault\n",
+        ),
         (SCRIPT, 0, 1, Status::WriteFault, b"", b"dc: write fault\n"),
     ];
     for (input, bad_read, bad_write, status, out, err) in rows {
@@ -153,7 +167,10 @@ fn events_and_what_they_write(rt: HostRuntime) -> Result<(), Fail> {
         (b"dl 1 00", "> dl 1 00\n= no nobearer\n"),
         (b"step mt.air 0", "> step mt.air 0\n= no noflight\n"),
         (b"lose mt.air 0", "> lose mt.air 0\n= no nottunnel\n"),
-        (b"bearer 1 12 0 mm 0 2", "> bearer 1 12 0 mm 0 2\n= no nopolicy\n"),
+        (
+            b"bearer 1 12 0 mm 0 2",
+            "> bearer 1 12 0 mm 0 2\n= no nopolicy\n",
+        ),
         (
             b"bearer 1 12 4294967294 mm 0 0\ndrain\ndl 1 00\n",
             "> dl 1 00\n= ok\n- send mt.air pdu 1 1 0 4294967294 8ffe00\n",

@@ -1,6 +1,6 @@
 //! The lines of a transcript, written.
 
-ghost use Rattle.std.specs.Prelude.{◌≡◌, ℕ, ◌++◌, length, IfErr, IfOk, IsErrOf, OnOk};
+ghost use Rattle.std.specs.Prelude.{◌≡◌, ◌++◌, IfErr, IfOk, IsErrOf, OnOk};
 ghost use Rattle.std.specs.Io.KnownBytes.{Appends};
 ghost use Rattle.dc_base.specs.declared.answers.Status.{Status};
 ghost use Rattle.dc_outside.specs.Faults.{Rose};

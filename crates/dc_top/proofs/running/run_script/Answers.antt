@@ -1,4 +1,4 @@
-use Rattle.std.proofs.Common.{rules, ◌≡◌, ◌∙◌, [], ap, arith}
+use Rattle.std.proofs.Common.{rules, ◌∙◌, [], ap, arith}
 use Rattle.std.specs.Io.KnownBytes.{prepend_known}
 use Rattle.dc_top.specs.Ended.{HasEnded}
 use Rattle.dc_top.proofs.SoFar.{unread_header, end_at_header, end_before_lines, after_header, after_line, end_of_input, end_of_lines, no_line, end_in_line}
@@ -32,7 +32,7 @@ loop-number-init g c =
     let line = rw c.new-reader.ensures.held at c.in_ok-header.ensures.line in
     let counted = rw (c.new-reader.ensures.held, c.new-reader.ensures.passed) at c.in_ok-header.ensures.passed in (
       after_header c.in_ok-header.header c.in-Ok.world c.take_header.new.reader.passed (g.S.Source.left c.args.src.now) _ _ _ c.in_ok-header.ensures.header c.in-Ok.ensures
-      c.in_ok-write_first.ensures.written line counted c.in_ok-header.ensures.total,
+          c.in_ok-write_first.ensures.written line counted c.in_ok-header.ensures.total,
       c.in_ok-header.ensures.kept,
       c.in_ok-write_first.ensures.kept,
     )
@@ -63,8 +63,8 @@ loop-number-preserved g c =
     let i = c.loop-number.invariant in
     let ran = c.in_ok-run_line.ensures.ran in (
       after_line c.loop-number.world c.loop-number.number c.loop-number.reader.passed _ _ _ _ i.0 c.in-Some.line c.run_line.new.world ran.0 c.take_line.new.reader.passed _ _
-      (rw c.in-Some.is at c.in_ok-line.ensures.in_range) (rw c.in-Some.is at c.in_ok-line.ensures.short) c.in_ok-run_line.ensures.built ran.1 ran.2
-      (rw c.in-Some.is at c.in_ok-line.ensures.line) (rw c.in-Some.is at c.in_ok-line.ensures.passed) c.in_ok-line.ensures.total,
+          (rw c.in-Some.is at c.in_ok-line.ensures.in_range) (rw c.in-Some.is at c.in_ok-line.ensures.short) c.in_ok-run_line.ensures.built ran.1 ran.2
+          (rw c.in-Some.is at c.in_ok-line.ensures.line) (rw c.in-Some.is at c.in_ok-line.ensures.passed) c.in_ok-line.ensures.total,
       c.in_ok-line.ensures.kept ∙ i.1,
       c.in_ok-run_line.ensures.kept ∙ i.2,
     )

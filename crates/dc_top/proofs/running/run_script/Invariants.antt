@@ -1,4 +1,4 @@
-use Rattle.std.proofs.Common.{◌≡◌, ◌≤◌, length}
+use Rattle.std.proofs.Common.{◌≡◌}
 use Rattle.dc_text.specs.Lines.{input}
 use Rattle.dc_top.proofs.SoFar.{IsAfterLines}
 use Rattle.dc_top.proofs.running.run_script.Given as goal

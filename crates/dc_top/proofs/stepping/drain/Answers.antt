@@ -1,4 +1,4 @@
-use Rattle.std.proofs.Common.{rules, ◌≡◌, Some, ◌∷◌, [], ◌++◌, sym, ◌∙◌}
+use Rattle.std.proofs.Common.{rules, ◌≡◌, Some, ◌∷◌, [], ◌++◌, ◌∙◌}
 use Rattle.dc_base.specs.declared.events.Event.TheVariants.{Step}
 use Rattle.dc_world.specs.Links.{first_nonempty}
 use Rattle.dc_top.specs.Steps.{HasStoppedDraining}
@@ -6,7 +6,7 @@ use Rattle.dc_top.proofs.Worlds.{first_step, run_more, stopped_after}
 use Rattle.dc_top.proofs.stepping.drain.Goals as goal
 
 pub returns-in_err-run_event-clause-stopped : goal.returns-in_err-run_event-clause-stopped
-returns-in_err-run_event-clause-stopped g c = 
+returns-in_err-run_event-clause-stopped g c =
     let i = c.loop-link.invariant in
     let first : Some c.in-Some.link ≡ first_nonempty c.loop-link.world.state.links = search rules in
     let stopped : HasStoppedDraining c.in_err-run_event.field-0.0 c.args.world.now (g.K.Sink.put_out c.args.out.now) (g.K.Sink.put_out c.run_event.new.out) =

@@ -1,4 +1,4 @@
-use Rattle.std.proofs.Common.{◌≡◌, ◌+◌, ◌-◌, ◌^◌, List}
+use Rattle.std.proofs.Common.{◌≡◌, ◌-◌, ◌^◌, List}
 use Rattle.dc_base.specs.declared.events.Event.{Event}
 use Rattle.dc_world.specs.Run.{counted}
 use Rattle.dc_top.specs.Steps.{AreFirstSteps, HasRun}
