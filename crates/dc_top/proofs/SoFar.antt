@@ -18,7 +18,7 @@ use Rattle.script_text.specs.Scripts.{IsScriptHeader}
 use Rattle.script_text.specs.declared.scripted.Scripted.{Scripted}
 use Rattle.script_text.specs.declared.scripted.Scripted.TheVariants.{One, Drain}
 use Rattle.dc_world.specs.Run.{Kept, IsGood, is_built, entry_of, entries_from, counted, IsWithin}
-use Rattle.dc_top.specs.Script.{HasRead, HasBadHeader, HasBadLine, HasUnbuiltLine, IsBuilt, IsInRange, IsTaken, IsTooLong, IsUnreadHeader, IsUnreadLine, line_text, most_line, most_octets}
+use Rattle.dc_top.specs.Script.{HasRead, HasBadHeader, HasBadLine, HasLine, HasUnbuiltLine, IsBuilt, IsInRange, IsTaken, IsTooLong, IsUnreadHeader, IsUnreadLine, line_text, most_line, most_octets}
 use Rattle.dc_top.specs.Steps.{policies, start, kept_after_all, events_text, AreEventsOf, AreBegun, HasRun, HasStoppedIn, HasEndedAt, IsUnbuilt, IsUnwritten}
 use Rattle.dc_top.specs.Run.{AreFirstEntriesOf, IsTranscriptOf, no_lines, one_more, IsFrontOf, whole, part, IsNextOf, next, RanTo, RanUpTo}
 use Rattle.dc_top.specs.Ended.{HasEnded, IsAhead, IsCutInEvent, PassesLimit}
@@ -59,9 +59,9 @@ so_far_first h k old new good is written = record {
   written = subst (Appends old new) (sym (transcript_text-none h)) written;
 }
 
-unbuilt_line : (line : Scripted) (rest : List ℕ) → IsInRange line → rest ≢ [] → line_text line ≡ line_of rest → IsUnbuilt line → HasUnbuiltLine rest
-unbuilt_line (One e) rest in_range some is unbuilt = record { there = some; event = e; in_range = in_range; spelled = sym is; unbuilt = unbuilt }
-unbuilt_line Drain rest in_range some is unbuilt = absurd unbuilt
+unbuilt_line : (line : Scripted) (rest : List ℕ) → IsInRange line → line_text line ≡ line_of rest → IsUnbuilt line → HasUnbuiltLine rest
+unbuilt_line (One e) rest in_range is unbuilt = record { event = e; in_range = in_range; spelled = sym is; unbuilt = unbuilt }
+unbuilt_line Drain rest in_range is unbuilt = absurd unbuilt
 
 module _ (h : Header) (lines : List Scripted) (k : Kept) (old mid : Option (List ℕ)) (s : IsSoFar h lines k old mid) where
   -- the run of the lines so far
@@ -114,8 +114,8 @@ module _ (h : Header) (lines : List Scripted) (k : Kept) (old mid : Option (List
   unread_line status.WriteFault input now left passed number r counted un = absurd un
   unread_line status.NotBuilt input now left passed number r counted un = absurd un
   unread_line (status.BadLine line column) input now left passed number r counted un =
-      let bad : HasBadLine r.rest column = subst (λ o. IfSome o (λ octets. HasBadLine octets column)) r.told un.1 in
-      (transcript_text h (entries h s.events), inr (r.rest, ran input r.rest r.read, bad, un.0 ∙ counted), s.written)
+      let bad : HasLine passed r.rest × HasBadLine r.rest column = subst (λ o. IfSome o (λ octets. HasLine passed octets × HasBadLine octets column)) r.told un.1 in
+      (transcript_text h (entries h s.events), inr (r.rest, ran input r.rest r.read, subst (λ n. HasLine n r.rest) r.counted bad.0, bad.1, un.0 ∙ counted), s.written)
   unread_line status.ReadFault input now left passed number r counted un =
       let cut : IsCutOff (Some r.rest) left = subst (λ o. IsCutOff o left) r.told un in
       (transcript_text h (entries h s.events), inr (r.rest, ran input r.rest r.read, cut), s.written)
@@ -283,25 +283,33 @@ module _ (h : Header) (lines : List Scripted) (k : Kept) (old mid : Option (List
     stopped_in status.WriteFault input rest left new read near p =
         inr (cut_in_event input rest left new p.before p.event p.stopped.0 read near p.built p.begun p.next p.stopped.1 p.stopped.2)
 
-    unbuilt_at : (input rest : List ℕ) (left new : Option (List ℕ)) → HasRead input h lines rest → rest ≢ [] → line_text line ≡ line_of rest → IsUnbuilt line → Appends mid new []
-        → HasEnded input status.NotBuilt left old new
-    unbuilt_at input rest left new read some is unbuilt none = (
+    unbuilt_at : (input rest : List ℕ) (left new : Option (List ℕ)) → (read : HasRead input h lines rest) → HasLine (length read.taken) rest → line_text line ≡ line_of rest
+        → IsUnbuilt line → Appends mid new [] → HasEnded input status.NotBuilt left old new
+    unbuilt_at input rest left new read there is unbuilt none = (
       transcript_text h (entries h s.events),
-      (rest, ran input rest read, unbuilt_line line rest in_range some is unbuilt),
+      (rest, ran input rest read, there, unbuilt_line line rest in_range is unbuilt),
       subst (Appends old new) (append-nil (transcript_text h (entries h s.events))) (Appends-trans old mid new (transcript_text h (entries h s.events)) [] s.written none),
     )
 
     -- the line was taken, and was not run to its end
     pub ended_at : (st : Status) (input held : List ℕ) (now now' left new : Option (List ℕ)) (passed passed' : ℕ) → IsAtRest input h lines now passed
-        → GivesLine now now' (line_text line) → IsAtRest input h (lines ++ line ∷ []) now' passed' → now' ≡ prepend_known held left → length held ≤ 65536
+        → GivesLine now now' (line_text line) → IfSome now (λ octets. passed' ≡ passed + span octets) → passed' ≤ most_octets → IsAtRest input h (lines ++ line ∷ []) now' passed' → now' ≡ prepend_known held left → length held ≤ 65536
         → HasEndedAt st line k mid new → HasEnded input st left old new
-    ended_at st input held now now' left new passed passed' before gives after is few ended = by_status st ended
+    ended_at st input held now now' left new passed passed' before gives counted small after is few ended = by_status st ended
       where
         near : IsAhead after.rest left
         near = not_far held left after.rest (sym is ∙ after.told) few
 
         known : GivesLine (Some before.rest) now' (line_text line)
         known = subst (λ o. GivesLine o now' (line_text line)) before.told gives
+
+        summed : passed' ≡ passed + span before.rest
+        summed = subst (λ o. IfSome o (λ octets. passed' ≡ passed + span octets)) before.told counted
+
+        there : HasLine (length before.read.taken) before.rest
+        there =
+            let is_long : length (line_text line) ≡ length (line_of before.rest) = ap (λ (l : List ℕ). length l) known.1 in
+            record { there = known.0; short = omega (arith, is_long); total = omega (arith, summed, before.counted) }
 
         by_status : (st : Status) → HasEndedAt st line k mid new → HasEnded input st left old new
         by_status status.Ok p = stopped_in status.Ok input after.rest left new after.read near p
@@ -311,7 +319,7 @@ module _ (h : Header) (lines : List Scripted) (k : Kept) (old mid : Option (List
         by_status status.WriteFault p = stopped_in status.WriteFault input after.rest left new after.read near p
         by_status status.Memory p = stopped_in status.Memory input after.rest left new after.read near p
         by_status status.TooLong p = stopped_in status.TooLong input after.rest left new after.read near p
-        by_status status.NotBuilt p = unbuilt_at input before.rest left new before.read known.0 known.1 p.0 p.1
+        by_status status.NotBuilt p = unbuilt_at input before.rest left new before.read there known.1 p.0 p.1
 
 -- ---- an end at the header
 
@@ -388,7 +396,7 @@ module _ (k : Kept) (number passed : ℕ) (all now old mid : Option (List ℕ)) 
     end_in_line st line held passed' new in_range short gives counted small few stopped =
         let reads = reads_more all a.header a.lines line now (prepend_known held left) passed passed' a.reads gives counted small in
         ended_at a.header a.lines k old mid a.so_far line in_range short st input held now (prepend_known held left) left new passed passed'
-        (at_rest all input a.header a.lines now passed told a.reads) gives
+        (at_rest all input a.header a.lines now passed told a.reads) gives counted small
         (at_rest all input a.header (a.lines ++ line ∷ []) (prepend_known held left) passed' told reads) refl few stopped
 
 -- an end at the header's own line

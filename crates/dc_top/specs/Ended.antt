@@ -11,18 +11,20 @@ use Rattle.transcript.specs.Text.{header_text, ended, lines_text}
 use Rattle.transcript.specs.Transcript.{Entry, entry_lines}
 use Rattle.script_text.specs.Scripts.{IsScriptHeader}
 use Rattle.dc_world.specs.Run.{counted, IsWithin}
-use Rattle.dc_top.specs.Script.{HasRead, HasBadHeader, HasBadLine, HasUnbuiltLine, IsTooLong}
+use Rattle.dc_top.specs.Script.{HasRead, HasBadHeader, HasBadLine, HasLine, HasUnbuiltLine, IsTooLong}
 use Rattle.dc_top.specs.Run.{IsTranscriptOf, IsFrontOf, RanTo, RanUpTo}
 
 -- line 1 is bad and nothing is written, or a later line is, after a run of the lines before it
 abbrev pub IsBadAt : List ℕ → ℕ → ℕ → List ℕ → Type 0
 IsBadAt input line column text =
     (HasBadHeader input column × (line ≡ 1) × (text ≡ []))
-    ⊎ ((rest : List ℕ) × (ran : RanTo IsTranscriptOf input rest text) × HasBadLine rest column × (line ≡ length ran.lines + 2))
+    ⊎ ((rest : List ℕ) × (ran : RanTo IsTranscriptOf input rest text) × HasLine (length ran.read.taken) rest × HasBadLine rest column
+    × (line ≡ length ran.lines + 2))
 
 -- the line after a run is an event that is not built
 abbrev pub IsUnbuiltAt : List ℕ → List ℕ → Type 0
-IsUnbuiltAt input text = (rest : List ℕ) × RanTo IsTranscriptOf input rest text × HasUnbuiltLine rest
+IsUnbuiltAt input text =
+    (rest : List ℕ) × (ran : RanTo IsTranscriptOf input rest text) × HasLine (length ran.read.taken) rest × HasUnbuiltLine rest
 
 -- the source failed before the LF of the next line, line 1 or a later one
 abbrev pub IsCutOffAt : List ℕ → List ℕ → Option (List ℕ) → Type 0

@@ -61,16 +61,21 @@ IsTooLong passed rest = (most_line < length (line_of rest)) ⊎ (most_octets < p
 pub record HasBadHeader (input : List ℕ) (column : ℕ) : Type 0 where
   pub outside : (h : Header) → IsScriptHeader h → line_of input ≡ header_text h → ⊥
   pub first_bad : IsHeaderColumn (line_of input) column
+  pub short : length (line_of input) ≤ most_line
 
--- the first line of octets, which is there, is neither an event nor a drain, and this is its column
-pub record HasBadLine (rest : List ℕ) (column : ℕ) : Type 0 where
+-- the first line of the rest, after so many octets, is there and within the limits
+pub record HasLine (passed : ℕ) (rest : List ℕ) : Type 0 where
   pub there : rest ≡ [] → ⊥
+  pub short : length (line_of rest) ≤ most_line
+  pub total : passed + span rest ≤ most_octets
+
+-- the first line of octets is neither an event nor a drain, and this is its column
+pub record HasBadLine (rest : List ℕ) (column : ℕ) : Type 0 where
   pub outside : (s : Scripted) → IsLineOf s (line_of rest) → ⊥
   pub first_bad : IsColumn (line_of rest) column
 
--- the first line of octets, which is there, is an event that is not built
+-- the first line of octets is an event that is not built
 pub record HasUnbuiltLine (rest : List ℕ) : Type 0 where
-  pub there : rest ≡ [] → ⊥
   pub event : Event
   pub in_range : IsScripted event
   pub spelled : line_of rest ≡ event_text event
@@ -90,5 +95,5 @@ IsUnreadHeader s rest passed left = IsUnread s rest passed left
 
 -- why no line of this number came
 abbrev pub IsUnreadLine : Status → ℕ → Option (List ℕ) → ℕ → Option (List ℕ) → Type 0
-IsUnreadLine (status.BadLine line column) number rest passed left = (line ≡ number) × IfSome rest (λ octets. HasBadLine octets column)
+IsUnreadLine (status.BadLine line column) number rest passed left = (line ≡ number) × IfSome rest (λ octets. HasLine passed octets × HasBadLine octets column)
 IsUnreadLine s number rest passed left = IsUnread s rest passed left
