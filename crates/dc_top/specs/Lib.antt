@@ -1,6 +1,6 @@
--- the definitions that contracts cite
-pub mod Opening
-pub mod Nodes
-pub mod Run
+-- What the contracts of this crate cite.
 pub mod Script
+pub mod Steps
+pub mod Run
+pub mod Ended
 pub mod Command

@@ -1,13 +1,12 @@
 //! The command line, read and run.
 
-ghost use Rattle.std.specs.Prelude.{◌≡◌, ◌↔◌, ◌⊎◌, ℕ, ◌<◌, ◌≤◌, List, [], ◌∷◌, length, codes, Some, IsTrue, map, string_bytes};
+ghost use Rattle.std.specs.Prelude.{◌≡◌, ◌↔◌, ◌⊎◌, ℕ, List, Some, IsTrue, map, string_bytes};
 ghost use Rattle.dc_base.specs.declared.answers.Status.{Status};
 ghost use Rattle.dc_outside.specs.Faults.{Rose};
-ghost use Rattle.dc_top.specs.Script.{most_octets};
-ghost use Rattle.dc_top.specs.Command.{HasEnded, HasWritten, IsRun, IsNoOther};
+ghost use Rattle.dc_top.specs.Command.{HasWritten, IsRun, IsNoOther};
+ghost use Rattle.dc_top.specs.Ended.{HasEnded};
 
 use crate::faults::write_fault;
-use crate::reading::{Unread, read_all};
 use crate::running::run_script;
 use dc_base::Status;
 use dc_forms::run_form;
@@ -24,38 +23,17 @@ fn is_run(words: &[String]) -> bool
     }
 }
 
-/// Runs octets that were read whole, and writes the text.
-fn write_run<K: Sink>(alloc: Global, input: &[u8], out: &mut K) -> Status
-    requires { length input.now ≤ most_octets }
-    ensures ended { HasEnded input.now result (K.put_out out.old) (K.put_out out.new) }
-    ensures fault { result ≡ Status.WriteFault → Rose (K.fault_count out.old) (K.fault_count out.new) }
-    ensures others { (result ≡ Status.Usage → ⊥) × (result ≡ Status.ReadFault → ⊥) × (result ≡ Status.TooLong → ⊥) }
-{
-    let Ok(ran) = run_script(alloc, input) else {
-        return Status::Memory;
-    };
-    if out.write_all(ran.text.as_slice()).is_err() {
-        return Status::WriteFault;
-    }
-    match ran.bad {
-        None => Status::Ok,
-        Some(line) => Status::BadLine { line, column: 1 },
-    }
-}
-
-/// Reads the source whole, runs its octets as a script, and writes the transcript.
+/// Runs the script that the source gives, and writes its transcript.
 fn run<S: Source, K: Sink>(alloc: Global, src: &mut S, out: &mut K) -> Status
-    ensures ended { (input : List ℕ) → S.left src.old ≡ Some input → HasEnded input result (K.put_out out.old) (K.put_out out.new) }
+    ensures ended { (input : List ℕ) → S.left src.old ≡ Some input
+        → HasEnded input result (S.left src.new) (K.put_out out.old) (K.put_out out.new) }
     ensures read_fault { result ≡ Status.ReadFault → Rose (S.fault_count src.old) (S.fault_count src.new) }
     ensures write_fault { result ≡ Status.WriteFault → Rose (K.fault_count out.old) (K.fault_count out.new) }
-    ensures too_long { result ≡ Status.TooLong → (input : List ℕ) → S.left src.old ≡ Some input → most_octets < length input }
     ensures others { result ≡ Status.Usage → ⊥ }
 {
-    match read_all(alloc, src) {
-        Ok(input) => write_run(alloc, input.as_slice(), out),
-        Err(Unread::Fault) => Status::ReadFault,
-        Err(Unread::TooLong) => Status::TooLong,
-        Err(Unread::Memory) => Status::Memory,
+    match run_script(alloc, src, out) {
+        Ok(()) => Status::Ok,
+        Err(status) => status,
     }
 }
 
@@ -65,7 +43,7 @@ fn write_form<K: Sink>(alloc: Global, words: &[String], out: &mut K) -> Status
     ensures usage { result ≡ Status.Usage → IsNoOther (map string_bytes words.now) }
     ensures no_form { IsNoOther (map string_bytes words.now) → (result ≡ Status.Usage) ⊎ (result ≡ Status.Memory) }
     ensures fault { result ≡ Status.WriteFault → Rose (K.fault_count out.old) (K.fault_count out.new) }
-    ensures others { (result ≡ Status.ReadFault → ⊥) × (result ≡ Status.TooLong → ⊥) }
+    ensures others { result ≡ Status.ReadFault → ⊥ }
 {
     match run_form(alloc, words) {
         Ok(None) => Status::Usage,
@@ -90,7 +68,7 @@ pub fn run_command<S: Source, K: Sink, E: Sink>(
 ) -> Status
     // A run: what was written, where source and sink tell their octets. The run theorem stands here.
     ensures ended { IsRun (map string_bytes words.now) → (input : List ℕ) → S.left src.old ≡ Some input
-        → HasEnded input result (K.put_out out.old) (K.put_out out.new) }
+        → HasEnded input result (S.left src.new) (K.put_out out.old) (K.put_out out.new) }
 
     // Another form, or none: what was written, and that nothing was read.
     ensures written { (IsRun (map string_bytes words.now) → ⊥)
@@ -103,7 +81,6 @@ pub fn run_command<S: Source, K: Sink, E: Sink>(
         → (result ≡ Status.Usage) ⊎ (result ≡ Status.Memory) }
     ensures read_fault { result ≡ Status.ReadFault → Rose (S.fault_count src.old) (S.fault_count src.new) }
     ensures write_fault { result ≡ Status.WriteFault → Rose (K.fault_count out.old) (K.fault_count out.new) }
-    ensures too_long { result ≡ Status.TooLong → (input : List ℕ) → S.left src.old ≡ Some input → most_octets < length input }
 {
     let status = if is_run(words) {
         run(alloc, src, out)

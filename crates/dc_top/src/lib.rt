@@ -1,16 +1,12 @@
-//! The top call: it reads a script, runs the nodes on it, and writes the transcript.
+//! The top call: it reads a script line by line, runs the nodes on it, and writes the transcript as it goes.
 #![tactic(auto)]
 
-mod bearer;
 mod command;
 mod faults;
-mod judging;
-mod lines;
-mod opening;
 mod reading;
 mod running;
-mod terminal;
-mod world;
+mod stepping;
+mod writing;
 
 pub use command::run_command;
 

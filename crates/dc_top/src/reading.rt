@@ -1,47 +1,96 @@
-//! The input, read whole.
+//! The lines of a script, read one by one.
 
-ghost use Rattle.std.specs.Prelude.{◌≡◌, ℕ, ◌<◌, ◌≤◌, List, length, Option, Some, IfOk, IfErr, ◌++◌};
+ghost use Rattle.std.specs.Prelude.{◌≡◌, ◌+◌, ◌≤◌, length, IfErr, IfNone, IfOk, IfSome, IsErrOf, OnOk};
+ghost use Rattle.std.specs.Io.KnownBytes.{IsAtEnd};
+ghost use Rattle.dc_base.specs.declared.answers.Status.{Status};
 ghost use Rattle.dc_outside.specs.Faults.{Rose};
-ghost use Rattle.dc_top.specs.Script.{most_octets};
+ghost use Rattle.dc_text.specs.Lines.{GivesLine, input, span};
+ghost use Rattle.transcript.specs.Text.{header_text};
+ghost use Rattle.script_text.specs.Scripts.{IsScriptHeader};
+ghost use Rattle.dc_top.specs.Script.{IsInRange, IsUnread, IsUnreadHeader, IsUnreadLine, line_text, most_line, most_octets};
+ghost use Rattle.dc_top.specs.Ended.{most_ahead};
 
+use dc_base::{Header, Octets, Status};
 use dc_outside::Source;
+use dc_text::{LineErr, LineReader};
+use script_text::{LineFault, Scripted, read_header, read_line};
 use std::alloc::Global;
 
-/// The most octets that a script has: 16 MiB.
-const MOST: usize = 16 << 20;
-
-/// Why the input was not read to its end.
-#[derive(Clone, Copy, Debug, PartialEq, Eq)]
-pub enum Unread {
-    /// The source failed.
-    Fault,
-    /// It has more than 16 MiB.
-    TooLong,
-    /// There was no memory.
-    Memory,
+/// The next line, or the status that a run ends with where none comes.
+fn next_line<S: Source>(reader: &mut LineReader, src: &mut S) -> Result<Option<Octets>, Status>
+    ensures line { IfOk result (λ found. IfSome found (λ line.
+        GivesLine (input reader.old (S.left src.old)) (input reader.new (S.left src.new)) line)) }
+    ensures end { IfOk result (λ found. IfNone found (IsAtEnd (input reader.old (S.left src.old)))) }
+    ensures short { IfOk result (λ found. IfSome found (λ line. length line ≤ most_line)) }
+    ensures total { reader.new.passed ≤ most_octets }
+    ensures passed { IfOk result (λ found. IfSome found (λ _. IfSome (input reader.old (S.left src.old))
+        (λ octets. reader.new.passed ≡ reader.old.passed + span octets))) }
+    ensures ahead { length reader.new.held ≤ most_ahead }
+    ensures unread { IfErr result (λ s. IsUnread s (input reader.old (S.left src.old)) reader.old.passed (S.left src.new)) }
+    ensures kept { OnOk result (S.fault_count src.new ≡ S.fault_count src.old) }
+    ensures fault { IsErrOf result Status.ReadFault → Rose (S.fault_count src.old) (S.fault_count src.new) }
+{
+    match reader.next(src) {
+        Ok(found) => Ok(found),
+        Err(LineErr::ReadFault) => Err(Status::ReadFault),
+        Err(LineErr::LineTooLong) => Err(Status::TooLong),
+        Err(LineErr::TotalTooLong) => Err(Status::TooLong),
+        Err(LineErr::Memory) => Err(Status::Memory),
+    }
 }
 
-/// All octets of the source, at most 16 MiB of them.
-pub fn read_all<S: Source>(alloc: Global, src: &mut S) -> Result<Vec<u8>, Unread>
-    ensures whole { IfOk result (λ all. (input : List ℕ) → S.left src.old ≡ Some input → all.items ≡ input) }
-    ensures short { IfOk result (λ all. length all.items ≤ most_octets) }
-    ensures later { S.fault_count src.old ≤ S.fault_count src.new }
-    ensures fault { IfErr result (λ why. why ≡ Unread.Fault → Rose (S.fault_count src.old) (S.fault_count src.new)) }
-    ensures long { IfErr result (λ why. why ≡ Unread.TooLong → (input : List ℕ) → S.left src.old ≡ Some input → most_octets < length input) }
+/// Reads the first line, which is to be a header. An input without a line is bad at line 1, column 1.
+pub fn take_header<S: Source>(reader: &mut LineReader, src: &mut S) -> Result<Header, Status>
+    ensures header { IfOk result (λ h. IsScriptHeader h) }
+    ensures line { IfOk result (λ h.
+        GivesLine (input reader.old (S.left src.old)) (input reader.new (S.left src.new)) (header_text h)) }
+    ensures total { reader.new.passed ≤ most_octets }
+    ensures passed { OnOk result (IfSome (input reader.old (S.left src.old))
+        (λ octets. reader.new.passed ≡ reader.old.passed + span octets)) }
+    ensures ahead { length reader.new.held ≤ most_ahead }
+    ensures unread { IfErr result (λ s. IsUnreadHeader s (input reader.old (S.left src.old)) reader.old.passed (S.left src.new)) }
+    ensures kept { OnOk result (S.fault_count src.new ≡ S.fault_count src.old) }
+    ensures fault { IsErrOf result Status.ReadFault → Rose (S.fault_count src.old) (S.fault_count src.new) }
 {
-    let mut all = Vec::new(alloc);
-    let mut buffer = [0; 65_536];
-    while all.len() <= MOST {
-        let n = match src.read(&mut buffer) {
-            Ok(n) => n,
-            Err(_) => return Err(Unread::Fault),
-        };
-        if n == 0 {
-            return Ok(all);
-        }
-        if all.extend_from_slice(&buffer[..n]).is_err() {
-            return Err(Unread::Memory);
-        }
+    let Some(line) = next_line(reader, src)? else {
+        return Err(Status::BadLine { line: 1, column: 1 });
+    };
+    match read_header(line.as_slice()) {
+        Ok(header) => Ok(header),
+        Err(LineFault::Column(column)) => Err(Status::BadLine { line: 1, column }),
+        Err(LineFault::Memory) => Err(Status::Memory),
     }
-    Err(Unread::TooLong)
+}
+
+/// Reads a further line, which has this number: `None` at the end of the input.
+pub fn take_line<S: Source>(
+    alloc: Global,
+    reader: &mut LineReader,
+    src: &mut S,
+    number: u32,
+) -> Result<Option<Scripted>, Status>
+    ensures in_range { IfOk result (λ found. IfSome found (λ line. IsInRange line)) }
+    ensures short { IfOk result (λ found. IfSome found (λ line. length (line_text line) ≤ most_line)) }
+    ensures line { IfOk result (λ found. IfSome found (λ line.
+        GivesLine (input reader.old (S.left src.old)) (input reader.new (S.left src.new)) (line_text line))) }
+    ensures end { IfOk result (λ found. IfNone found (IsAtEnd (input reader.old (S.left src.old)))) }
+    ensures total { reader.new.passed ≤ most_octets }
+    ensures passed { IfOk result (λ found. IfSome found (λ _. IfSome (input reader.old (S.left src.old))
+        (λ octets. reader.new.passed ≡ reader.old.passed + span octets))) }
+    ensures ahead { length reader.new.held ≤ most_ahead }
+    ensures unread { IfErr result (λ s. IsUnreadLine s number (input reader.old (S.left src.old)) reader.old.passed (S.left src.new)) }
+    ensures kept { OnOk result (S.fault_count src.new ≡ S.fault_count src.old) }
+    ensures fault { IsErrOf result Status.ReadFault → Rose (S.fault_count src.old) (S.fault_count src.new) }
+{
+    let Some(line) = next_line(reader, src)? else {
+        return Ok(None);
+    };
+    match read_line(alloc, line.as_slice()) {
+        Ok(scripted) => Ok(Some(scripted)),
+        Err(LineFault::Column(column)) => Err(Status::BadLine {
+            line: number,
+            column,
+        }),
+        Err(LineFault::Memory) => Err(Status::Memory),
+    }
 }

@@ -4,6 +4,13 @@ use dc_outside::{MemSink, MemSource};
 use std::alloc::Global;
 use std::test::Fail;
 
+/// The first line of most scripts.
+const HEADER: &[u8] =
+    b"dcs1 nea0 0 0000000000000000000000000000000000000000000000000000000000000000\n";
+
+/// A bearer is set up.
+const OPENING: &[u8] = b"bearer 1 12 0 mm 0 0\nstep mt.ctl 0\nstep tm.ctl 0\n";
+
 /// Two payloads in the wrong order, handed up in the right one.
 const SCRIPT: &[u8] = b"dcs1 nea0 0 0000000000000000000000000000000000000000000000000000000000000000
 bearer 1 12 0 mm 0 0
@@ -55,12 +62,13 @@ dl 1 796f
 step mt.air 1
 step mt.air 0";
 
-/// What a call left: its status, and what it put out on `out` and `err`.
+/// What a call left: its status, what it put out on `out` and `err`, and how many octets it left at the source.
 #[derive(Drop)]
 struct Left {
     status: Status,
     out: Vec<u8>,
     err: Vec<u8>,
+    unread: usize,
 }
 
 /// A call with these words and this input, in which the read and the write of these numbers fail.
@@ -83,15 +91,21 @@ fn call(
         status,
         out: out.octets().to_vec(alloc)?,
         err: err.octets().to_vec(alloc)?,
+        unread: src.left().len(),
     })
+}
+
+/// A run of a script that begins with the header, with no fault of the outside.
+fn run_lines(alloc: Global, lines: &[u8]) -> Result<Left, Fail> {
+    let mut script = HEADER.to_vec(alloc)?;
+    script.extend_from_slice(lines)?;
+    call(alloc, &["run"], script.as_slice(), 0, 0)
 }
 
 #[test]
 fn scripts_and_what_they_leave(rt: HostRuntime) -> Result<(), Fail> {
-    let bad_line_2: &[u8] =
-        b"dcs1 nea0 0 0000000000000000000000000000000000000000000000000000000000000000\nbearer 1 13 0 mm 0 0\n";
     let line_1 = Status::BadLine { line: 1, column: 1 };
-    let line_2 = Status::BadLine { line: 2, column: 1 };
+    let bad_header: &[u8] = b"dcs1 nea1 0 00\n";
     let rows: [(&[u8], u64, u64, Status, &[u8], &[u8]); 5] = [
         (SCRIPT, 0, 0, Status::Ok, TRANSCRIPT, b""),
         (
@@ -103,20 +117,101 @@ fn scripts_and_what_they_leave(rt: HostRuntime) -> Result<(), Fail> {
             b"dc: line 1 column 1: not in the grammar\n",
         ),
         (
-            bad_line_2,
+            bad_header,
             0,
             0,
-            line_2,
-            &TRANSCRIPT[..77],
-            b"dc: line 2 column 1: not in the grammar\n",
+            Status::BadLine { line: 1, column: 6 },
+            b"",
+            b"dc: line 1 column 6: not in the grammar\n",
         ),
-        (SCRIPT, 2, 0, Status::ReadFault, b"", b"dc: read fault\n"),
+        (
+            SCRIPT,
+            2,
+            0,
+            Status::ReadFault,
+            TRANSCRIPT,
+            b"dc: read fault\n",
+        ),
         (SCRIPT, 0, 1, Status::WriteFault, b"", b"dc: write fault\n"),
     ];
     for (input, bad_read, bad_write, status, out, err) in rows {
         let left = call(rt.alloc(), &["run"], input, bad_read, bad_write)?;
         assert_eq!(rt; left.status, status);
         assert_eq!(rt; left.out.as_slice(), out);
+        assert_eq!(rt; left.err.as_slice(), err);
+    }
+    Ok(())
+}
+
+#[test]
+fn bad_lines_and_their_columns(rt: HostRuntime) -> Result<(), Fail> {
+    let rows: [(&[u8], u32); 6] = [
+        (b"dl 1 ", 6),
+        (b"dl 33 00", 4),
+        (b"step mt.air 01", 13),
+        (b"bearer 1 13 0 mm 0 0", 10),
+        (b"drain x", 7),
+        (b"add", 4),
+    ];
+    for (line, column) in rows {
+        let left = run_lines(rt.alloc(), line)?;
+        assert_eq!(rt; left.status, Status::BadLine { line: 2, column });
+        assert_eq!(rt; left.out.as_slice(), HEADER);
+    }
+    Ok(())
+}
+
+#[test]
+fn events_and_what_they_write(rt: HostRuntime) -> Result<(), Fail> {
+    let rows: [(&[u8], &str); 9] = [
+        (b"dl 1 00", "> dl 1 00\n= no nobearer\n"),
+        (b"step mt.air 0", "> step mt.air 0\n= no noflight\n"),
+        (b"lose mt.air 0", "> lose mt.air 0\n= no nottunnel\n"),
+        (
+            b"bearer 1 12 0 mm 0 2",
+            "> bearer 1 12 0 mm 0 2\n= no nopolicy\n",
+        ),
+        (
+            b"bearer 1 12 4294967294 mm 0 0\ndrain\ndl 1 00\n",
+            "> dl 1 00\n= ok\n- send mt.air pdu 1 1 0 4294967294 8ffe00\n",
+        ),
+        (
+            b"bearer 1 12 4294967294 mm 0 0\ndrain\ndl 1 00\ndl 1 01\n",
+            "> dl 1 01\n= no exhausted\n",
+        ),
+        (
+            b"bearer 1 12 0 mm 0 0\ndrain\n",
+            "> step mt.ctl 0\n= ok\n- set 1 1\n- send tm.ctl rcomp 1\n> step tm.ctl 0\n= ok\n- done\n",
+        ),
+        (
+            b"bearer 2 18 5 mm 0 0\ndrain\ndl 2 6869\n",
+            "> dl 2 6869\n= ok\n- send mt.air pdu 2 1 0 5 8000056869\n",
+        ),
+        (
+            b"bearer 2 18 5 mm 0 0\ndrain\nul 2 00\n",
+            "> ul 2 00\n= ok\n- send tm.air pdu 2 1 0 5 80000500\n",
+        ),
+    ];
+    for (lines, part) in rows {
+        let left = run_lines(rt.alloc(), lines)?;
+        assert_eq!(rt; left.status, Status::Ok);
+        let text = String::from_utf8(left.out)?;
+        assert!(rt; text.ends_with(part));
+    }
+    Ok(())
+}
+
+#[test]
+fn a_line_too_long_and_an_event_that_is_not_built(rt: HostRuntime) -> Result<(), Fail> {
+    let long = vec![in rt.alloc(); b'0'; 20_001]?;
+    let rows: [(&[u8], Status, &[u8]); 2] = [
+        (long.as_slice(), Status::TooLong, b"dc: too long\n"),
+        (b"change\n", Status::NotBuilt, b"dc: not built\n"),
+    ];
+    for (lines, status, err) in rows {
+        let left = run_lines(rt.alloc(), lines)?;
+        assert_eq!(rt; left.status, status);
+        assert_eq!(rt; left.out.as_slice(), HEADER);
         assert_eq!(rt; left.err.as_slice(), err);
     }
     Ok(())
@@ -149,16 +244,29 @@ fn ciphered_payloads(rt: HostRuntime) -> Result<(), Fail> {
 }
 
 #[test]
-fn a_full_window_and_an_empty_link(rt: HostRuntime) -> Result<(), Fail> {
+fn a_full_window_and_one_that_moves(rt: HostRuntime) -> Result<(), Fail> {
     let alloc = rt.alloc();
-    let mut script = SCRIPT[..126].to_vec(alloc)?;
-    script.extend_from_slice(b"step mt.air 0\n")?;
+    let mut lines = OPENING.to_vec(alloc)?;
     for _ in 0..2049 {
-        script.extend_from_slice(b"dl 1 00\n")?;
+        lines.extend_from_slice(b"dl 1 00\n")?;
     }
-    let left = call(alloc, &["run"], script.as_slice(), 0, 0)?;
+    lines.extend_from_slice(b"step mt.air 0\nstep tm.air 0\ndl 1 00\n")?;
+    let left = run_lines(alloc, lines.as_slice())?;
     let text = String::from_utf8(left.out)?;
-    assert!(rt; text.contains("> step mt.air 0\n= no noflight\n> dl 1 00\n= ok\n"));
     assert!(rt; text.contains("- send mt.air pdu 1 1 2047 2047 87ff00\n> dl 1 00\n= no full\n"));
+    assert!(rt; text.contains("- freed 1 dl 1\n> dl 1 00\n= ok\n"));
+    Ok(())
+}
+
+#[test]
+fn a_write_that_fails_stops_the_reading(rt: HostRuntime) -> Result<(), Fail> {
+    let alloc = rt.alloc();
+    let mut script = HEADER.to_vec(alloc)?;
+    for _ in 0..74_900 {
+        script.extend_from_slice(b"step mt.air 0\n")?;
+    }
+    let left = call(alloc, &["run"], script.as_slice(), 0, 1)?;
+    assert_eq!(rt; left.status, Status::WriteFault);
+    assert!(rt; left.unread >= 900_000);
     Ok(())
 }
