@@ -1,5 +1,5 @@
 -- The COUNTs of a bitmap, one bit after another.
-use Rattle.std.proofs.Common.{ℕ, zero, suc, ◌≡◌, ◌+◌, ◌++◌, List, [], ◌∷◌, refl, sym, ap, ◌∙◌, arith, append_assoc, append-nil}
+use Rattle.std.proofs.Common.{ℕ, zero, suc, ◌≡◌, ◌+◌, ◌++◌, List, sym, ap, ◌∙◌, arith, append_assoc, append-nil}
 use Rattle.dc_forms.specs.Shown.{shown_at, shown_from}
 
 one_more : (fmc : ℕ) (bits : List ℕ) (k n : ℕ) → shown_from fmc bits k (suc n) ≡ shown_from fmc bits k n ++ shown_at fmc bits (k + n)

@@ -1,9 +1,8 @@
 -- The forms of the command line that read no source: their words, and what each writes.
-use Rattle.std.specs.Prelude.{◌≡◌, ℕ, ◌+◌, ◌*◌, ◌^◌, ◌<◌, ◌≤◌, List, [], ◌∷◌, ◌++◌, length, codes, ◌≢◌, Option, MatchOption}
+use Rattle.std.specs.Prelude.{◌≡◌, ℕ, ◌≤◌, List, [], ◌∷◌, ◌++◌, length, codes, ◌≢◌, Option, MatchOption}
 use Rattle.std.specs.Fmt.{decimal}
 use Rattle.hex.specs.Hex.{encode_lower, IsBytes}
 use Rattle.dc_base.specs.declared.nodes.Alg.TheVariants.{Nea2}
-use Rattle.dc_base.specs.declared.nodes.Dir.{Dir}
 use Rattle.nea2.specs.Combined.{combined}
 use Rattle.nea2.specs.Keystream.{keystream}
 use Rattle.key_chain.specs.Derived.{k_sn, k_upenc}

@@ -1,9 +1,8 @@
 -- What octets are shown as: one line, also for octets that are none of the kind.
-use Rattle.std.specs.Prelude.{◌≡◌, ℕ, ◌+◌, ◌*◌, ◌==◌, ◌⊎◌, Bool, true, false, if◌then◌else◌, List, [], ◌∷◌, ◌++◌, length, codes, map, Option, Some, None, Result, Ok, Err, zero, suc, ◌≤◌, ⊤}
+use Rattle.std.specs.Prelude.{◌≡◌, ℕ, ◌+◌, ◌*◌, ◌⊎◌, Bool, true, false, if◌then◌else◌, List, [], ◌∷◌, ◌++◌, length, codes, Option, Some, None, Result, Ok, Err, zero, suc}
 use Rattle.std.specs.List.{flat_map}
 use Rattle.std.specs.Fmt.{decimal}
 use Rattle.hex.specs.Hex.{encode_lower}
-use Rattle.dc_base.specs.declared.numbers.SnLen.{SnLen}
 use Rattle.dc_base.specs.declared.numbers.SnLen.TheVariants.{S12, S18}
 use Rattle.pdcp_pdu.specs.Bitmap.{is_shown}
 use Rattle.pdcp_pdu.specs.Pdu.{Content, sdu, report, decoded}
@@ -127,21 +126,21 @@ abbrev pub frame_text : Frame → List ℕ
 frame_text (User n user repeat) = numbered (codes "user number ") n ++ codes " user " ++ flag user ++ codes " repeat " ++ flag repeat
 frame_text (Status highest lost) = codes "status" ++ highest_text highest ++ lost_text lost
 
--- why octets are no frame: the first check that fails, and its place; want of memory has no text
-abbrev pub nru_fault_text : NruErr → List ℕ
-nru_fault_text (nru.Short place) = bad (codes "short") place
-nru_fault_text (nru.Kind place) = bad (codes "kind") place
-nru_fault_text (nru.Ranges place) = bad (codes "ranges") place
-nru_fault_text (nru.Trailing place) = bad (codes "trailing") place
-nru_fault_text nru.Memory = []
+-- the text is the line for why octets are no frame: the first check that fails, and its place; want of memory is no check, so it has no line
+abbrev pub IsNruFaultLine : NruErr → List ℕ → Type 0
+IsNruFaultLine (nru.Short place) text = text ≡ ended (bad (codes "short") place)
+IsNruFaultLine (nru.Kind place) text = text ≡ ended (bad (codes "kind") place)
+IsNruFaultLine (nru.Ranges place) text = text ≡ ended (bad (codes "ranges") place)
+IsNruFaultLine (nru.Trailing place) text = text ≡ ended (bad (codes "trailing") place)
+IsNruFaultLine nru.Memory text = ⊥
 
 -- ---- any of these
 
--- the text is the line for octets as this kind: what they say, or why they are none (for NR-U also an empty line)
+-- the text is the line for octets as this kind: what they say, or why they are none
 abbrev pub IsShown : Kind → List ℕ → List ℕ → Type 0
 IsShown Pdu12 octets text = text ≡ ended (pdu_text (decoded S12 octets))
 IsShown Pdu18 octets text = text ≡ ended (pdu_text (decoded S18 octets))
 IsShown Gtp octets text =
     ((p : Said) × IsPacket p octets × (text ≡ ended (packet_text p))) ⊎ ((e : GtpErr) × HasFault octets e × (text ≡ ended (gtp_fault_text e)))
 IsShown Nru octets text =
-    ((f : Frame) × IsFrame octets f × (text ≡ ended (frame_text f))) ⊎ ((e : NruErr) × IsFaultOf octets e × (text ≡ ended (nru_fault_text e)))
+    ((f : Frame) × IsFrame octets f × (text ≡ ended (frame_text f))) ⊎ ((e : NruErr) × IsFaultOf octets e × IsNruFaultLine e text)

@@ -5,7 +5,7 @@ ghost use Rattle.std.specs.List.{flat_map};
 ghost use Rattle.pdcp_pdu.specs.Bitmap.{is_shown};
 ghost use Rattle.pdcp_pdu.specs.Pdu.{sdu, report, decoded};
 ghost use Rattle.gtpu.specs.Content.{view};
-ghost use Rattle.dc_forms.specs.Shown.{pdu_text, shown_at, shown_from, received, kind_name, container_text, number_text, body_text, packet_text, gtp_fault_text, flag, range_text, highest_text, lost_text, frame_text, nru_fault_text, IsShown};
+ghost use Rattle.dc_forms.specs.Shown.{pdu_text, shown_at, shown_from, received, kind_name, container_text, number_text, body_text, packet_text, gtp_fault_text, flag, range_text, highest_text, lost_text, frame_text, IsNruFaultLine, IsShown};
 
 use crate::form::Kind;
 use crate::pieces::{push_bad, push_hex, push_number};
@@ -249,17 +249,20 @@ fn push_frame(out: &mut Octets, frame: &Frame) -> Result<(), Memory>
     }
 }
 
-/// Adds why octets are no frame.
-fn push_nru_fault(out: &mut Octets, error: NruErr) -> Result<(), Memory>
-    ensures { OnOk result (out.new ≡ out.old ++ nru_fault_text error) }
+/// The line for why octets are no frame.
+fn show_nru_fault(alloc: Global, error: NruErr) -> Result<Octets, Memory>
+    ensures { IfOk result (IsNruFaultLine error) }
 {
+    let mut out = Octets::new(alloc);
     match error {
-        NruErr::Short { place } => push_bad(out, b"short", place),
-        NruErr::Kind { place } => push_bad(out, b"kind", place),
-        NruErr::Ranges { place } => push_bad(out, b"ranges", place),
-        NruErr::Trailing { place } => push_bad(out, b"trailing", place),
-        NruErr::Memory => Err(Memory),
+        NruErr::Short { place } => push_bad(&mut out, b"short", place)?,
+        NruErr::Kind { place } => push_bad(&mut out, b"kind", place)?,
+        NruErr::Ranges { place } => push_bad(&mut out, b"ranges", place)?,
+        NruErr::Trailing { place } => push_bad(&mut out, b"trailing", place)?,
+        NruErr::Memory => return Err(Memory),
     }
+    out.push(b'\n')?;
+    Ok(out)
 }
 
 /// The line that octets are shown as, as an NR-U frame.
@@ -269,7 +272,7 @@ fn show_frame(alloc: Global, octets: &[u8]) -> Result<Octets, Memory>
     let mut out = Octets::new(alloc);
     match nr_u::decode(alloc, octets) {
         Ok(frame) => push_frame(&mut out, &frame)?,
-        Err(error) => push_nru_fault(&mut out, error)?,
+        Err(error) => return show_nru_fault(alloc, error),
     }
     out.push(b'\n')?;
     Ok(out)

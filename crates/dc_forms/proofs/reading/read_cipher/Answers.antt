@@ -1,4 +1,4 @@
-use Rattle.std.proofs.Common.{rules, arith}
+use Rattle.std.proofs.Common.{rules}
 use Rattle.dc_forms.proofs.Wording.{no_key, long_text}
 use Rattle.dc_forms.proofs.reading.read_cipher.Goals as goal
 
