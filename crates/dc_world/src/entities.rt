@@ -127,7 +127,7 @@ impl PdcpEntities {
         })
     }
 
-    // The number that the next PDU has on the leg. For 2^32 PDUs there is no room in memory.
+    // The number that the next PDU has on the leg. A run sends far fewer than 2^32; one more says `Memory`.
     fn next_number(&self) -> Result<u32, Memory>
         ensures { IfOk result (λ num. num ≡ length self.now.sent) }
     {
