@@ -4,8 +4,8 @@ use Rattle.std.specs.Prelude.{◌&&◌, Contains}
 use Rattle.std.proofs.lemmas.Bool.{cases_Bool, eqb-true, eqb-false}
 use Rattle.dc_base.specs.declared.nodes.Dir.{Dir}
 use Rattle.dc_base.specs.declared.nodes.Dir.TheVariants.{Ul, Dl}
-use Rattle.transcript.specs.Content.{direction}
-use Rattle.transcript.specs.Bearers.{Established, is_same_dir}
+use Rattle.transcript.specs.Content.{direction, is_same_link, reverse}
+use Rattle.transcript.specs.Bearers.{Established, is_same_dir, submitter}
 use Rattle.transcript.proofs.Establishing.{IsOnce, same_bearer}
 use Rattle.dc_world.specs.Plane.{leg, other}
 
@@ -35,6 +35,26 @@ other_dir Dl = refl
 pub direction_leg : (d : Dir) → direction (leg d) ≡ d
 direction_leg Ul = refl
 direction_leg Dl = refl
+
+-- a leg is the same as itself
+pub same_leg : (d : Dir) → is_same_link (leg d) (leg d) ≡ true
+same_leg Dl = refl
+same_leg Ul = refl
+
+-- the legs of the two directions are two
+pub other_leg : (d : Dir) → is_same_link (leg (other d)) (leg d) ≡ false
+other_leg Dl = refl
+other_leg Ul = refl
+
+-- a leg leads from the node that sends in its direction
+pub leg_from : (d : Dir) → (leg d).from ≡ submitter d
+leg_from Dl = refl
+leg_from Ul = refl
+
+-- the other leg is the same link turned round
+pub leg_back : (d : Dir) → leg (other d) ≡ reverse (leg d)
+leg_back Dl = refl
+leg_back Ul = refl
 
 -- another direction, or another identity
 abbrev pub Apart : Dir → ℕ → Dir → ℕ → Type 0

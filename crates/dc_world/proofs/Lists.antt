@@ -15,6 +15,13 @@ slice_get_left [] ys k x h = absurd cc
 slice_get_left (y ∷ xs) ys zero x h = h
 slice_get_left (y ∷ xs) ys (suc k) x h = slice_get_left xs ys k x h
 
+-- a place of the second list, after the first
+pub slice_get_right : {X : Type 0} (xs ys : List X) (k : ℕ) (y : X) → slice_get ys k ≡ Some y → slice_get (xs ++ ys) (length xs + k) ≡ Some y
+slice_get_right [] ys k y at = subst (λ i. slice_get ys i ≡ Some y) (omega arith) at
+slice_get_right (x ∷ xs) ys k y at =
+    let next : suc (length xs + k) ≡ suc (length xs) + k = omega arith in
+    subst (λ i. slice_get (x ∷ (xs ++ ys)) i ≡ Some y) next (slice_get_right xs ys k y at)
+
 -- the last place
 pub slice_get_last : {X : Type 0} (xs : List X) (x : X) → slice_get (xs ++ x ∷ []) (length xs) ≡ Some x
 slice_get_last [] x = refl

@@ -76,10 +76,14 @@ pub is_some_map : (o : Option Entities) → is_some (option_map (λ e. e.bearer)
 is_some_map None = refl
 is_some_map (Some e) = refl
 
+-- nothing is there
+pub is_none : {A : Type 0} (o : Option A) → is_some o ≡ false → o ≡ None
+is_none None none = refl
+is_none (Some x) none = absurd cc
+
 -- a place with no bearer has no entities
 pub none_mapped : (x : Option Entities) → option_map (λ e. e.bearer) x ≡ None → x ≡ None
-none_mapped None is = refl
-none_mapped (Some x) is = absurd cc
+none_mapped x is = is_none x (sym (is_some_map x) ∙ ap (λ (o : Option Established). is_some o) is)
 
 module _ (t : List Entry) (e : Entry) (plain : IsPlain e) (s s' : Nodes) (keeps : Keeps s s') where
   -- the nodes still have the bearers of the transcript

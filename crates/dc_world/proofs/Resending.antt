@@ -1,11 +1,10 @@
 -- A node sends again all that it keeps of a bearer: what a recovery owes at either node.
-use Rattle.std.proofs.Common.{ℕ, zero, suc, ◌≡◌, ◌+◌, ◌-◌, ◌<◌, ◌≤◌, ◌⊎◌, ◌==◌, ◌++◌, List, [], ◌∷◌, Option, Some, None, Bool, true, false, length, map, slice_get, refl, sym, ap, ◌∙◌, subst, arith, inl, inr, append_assoc}
+use Rattle.std.proofs.Common.{ℕ, zero, suc, ◌≡◌, ◌+◌, ◌-◌, ◌<◌, ◌≤◌, ◌⊎◌, ◌==◌, ◌++◌, List, [], ◌∷◌, Option, Some, None, Bool, false, length, map, slice_get, refl, sym, ap, ◌∙◌, subst, arith, inl, inr, append_assoc}
 use Rattle.std.specs.Prelude.{Contains, if◌then◌else◌, fold, is_some, count_by}
 use Rattle.std.specs.List.{AllByRecursion, flat_map}
 use Rattle.std.specs.Option.{option_map}
 use Rattle.std.proofs.lemmas.List.{append-nil, length_push}
 use Rattle.std.proofs.lemmas.Bool.{cases_Bool, eq-eqb, ne_eqb}
-use Rattle.std.proofs.lemmas.Bool.Decides.{nat_tests}
 use Rattle.dc_base.specs.Count.{sn}
 use Rattle.dc_base.specs.declared.nodes.Dir.{Dir}
 use Rattle.dc_base.specs.declared.nodes.Dir.TheVariants.{Ul, Dl}
@@ -24,47 +23,29 @@ use Rattle.transcript.specs.Content.{is_same_link, put_on, place_taken, without_
 use Rattle.transcript.specs.Bearers.{OpenCommand, Established, established, latest, generation, submission, submitted, confirms, confirmed, is_confirmed, up_of, freed_of, tag_of, opens, ends_command, open_command, has_after, is_set, key_in, master_key}
 use Rattle.transcript.specs.Claims.{Protects, ProtectsSubmission, IsDataFlight, IsProtected, IsReason, IsLicensed, HasCause, MakesRecover, SentAgain, AscendsFrom, count_in, is_uncounted}
 use Rattle.dc_world.specs.Entities.{Entities, bearer_in}
-use Rattle.dc_world.specs.Plane.{leg, other, ciphered, data_flight, resends}
+use Rattle.dc_world.specs.Plane.{leg, ciphered, data_flight, resends}
 use Rattle.dc_world.specs.Control.{Nodes}
 use Rattle.dc_world.specs.Links.{Links, on, moved}
 use Rattle.dc_world.specs.Run.{WorldState}
 use Rattle.transcript.proofs.OnEach.{each_at}
 use Rattle.transcript.proofs.Establishing.{IsOnce, submitted-next, tags_sent-next, open_command-next, is_set-next, same_bearer, is_generation_once, established_drawn}
-use Rattle.dc_world.proofs.Lists.{slice_get_left}
+use Rattle.dc_world.proofs.Lists.{slice_get_left, slice_get_right}
 use Rattle.dc_world.proofs.Lane.{IsNumbered, IsGiven, IsLane, lane_sent, kept_unconfirmed}
 use Rattle.dc_world.proofs.Taking.{is_data_flight}
 use Rattle.dc_world.proofs.Tables.{is_established, Keeps, half_at, sender_put, sender_put_here, sender_put_apart, sender_put_rx, keeps_sender}
 use Rattle.dc_world.proofs.Contents.{on_moved}
-use Rattle.dc_world.proofs.Directions.{each_bearer, Apart, direction_leg}
+use Rattle.dc_world.proofs.Directions.{each_bearer, Apart, direction_leg, same_leg, other_leg}
 use Rattle.dc_world.proofs.Plain.{IsUndrawn, plans_same, established_same, generation_same, there_then, there_before, is_some_map, none_mapped}
-use Rattle.dc_world.proofs.Served.{lane_same, under_way_left, served_next, served_still}
-use Rattle.dc_world.proofs.Silent.{no_ups, no_frees, no_move, none_carried, grows_same}
-use Rattle.dc_world.proofs.Sound.{half, sender_table, receiver_table, IsNumberOf, IsPduOf, a_pdu, IsUnderWay, AllConfigured, PromiseOf, Phase, listed, IsServed, IsTabled, NoneSent, Happened, Sound}
+use Rattle.dc_world.proofs.Served.{lane_same, under_way_left, served_next, served_still, listed_push}
+use Rattle.dc_world.proofs.Silent.{no_ups, no_frees, no_move, none_carried, grows_same, none_more}
+use Rattle.dc_world.proofs.Sound.{half, sender_table, receiver_table, IsNumberOf, IsPduOf, IsUnderWay, AllConfigured, PromiseOf, Phase, listed, IsServed, IsTabled, NoneSent, Happened, Sound}
+use Rattle.dc_world.proofs.Leaving.{promised}
 
 -- the PDUs of a leg for these payloads
 abbrev pub counts_sent : List (ℕ × List ℕ) → List (Option ℕ)
 counts_sent xs = map (λ x. Some x.0) xs
 
 -- ---- places
-
--- nothing is added
-none_more : {A : Type 0} (xs ys : List A) → ys ≡ [] → xs ++ ys ≡ xs
-none_more xs ys none = ap (λ zs. xs ++ zs) none ∙ append-nil xs
-
--- one more PDU was sent
-listed_push : (xs : List (Option ℕ)) (c num : ℕ) → listed (slice_get xs num) ++ (if length xs == num then c ∷ [] else []) ≡ listed (slice_get (xs ++ Some c ∷ []) num)
-listed_push [] c zero = refl
-listed_push [] c (suc num) = grind (arith, nat_tests)
-listed_push (None ∷ xs) c zero = grind (arith, nat_tests)
-listed_push (Some x ∷ xs) c zero = grind (arith, nat_tests)
-listed_push (x ∷ xs) c (suc num) = grind (arith, nat_tests, listed_push xs c num)
-
--- a place of the second list, after the first
-slice_get_right : {X : Type 0} (xs ys : List X) (k : ℕ) (y : X) → slice_get ys k ≡ Some y → slice_get (xs ++ ys) (length xs + k) ≡ Some y
-slice_get_right [] ys k y at = subst (λ i. slice_get ys i ≡ Some y) (omega arith) at
-slice_get_right (x ∷ xs) ys k y at =
-    let next : suc (length xs + k) ≡ suc (length xs) + k = omega arith in
-    subst (λ i. slice_get (x ∷ (xs ++ ys)) i ≡ Some y) next (slice_get_right xs ys k y at)
 
 -- the COUNT of a payload stands at its place
 counts_at : (xs : List (ℕ × List ℕ)) (k : ℕ) (x : ℕ × List ℕ) → slice_get xs k ≡ Some x → slice_get (counts_sent xs) k ≡ Some (Some x.0)
@@ -77,23 +58,6 @@ given_again : (first next : ℕ) (P : ℕ × List ℕ → Type 0) → ((x : ℕ 
     → AllByRecursion (IsGiven first next) (counts_sent xs)
 given_again first next P is [] all = tt
 given_again first next P is (x ∷ xs) all = (is x all.0, given_again first next P is xs all.1)
-
--- ---- links and directions
-
--- a leg is the same as itself
-same_leg : (d : Dir) → is_same_link (leg d) (leg d) ≡ true
-same_leg Dl = refl
-same_leg Ul = refl
-
--- the legs of the two directions are two
-other_leg : (d : Dir) → is_same_link (leg (other d)) (leg d) ≡ false
-other_leg Dl = refl
-other_leg Ul = refl
-
--- a PDU of the direction of its leg is promised
-promised : (h : Header) (t : List Entry) (s : Nodes) (d : Dir) (f : Flight) → IsPduOf h t s d f → PromiseOf h t s (leg d, f)
-promised h t s Dl f pdu = a_pdu pdu
-promised h t s Ul f pdu = a_pdu pdu
 
 -- ---- the lines
 

@@ -45,7 +45,7 @@ pub none_carried : (b : Established) (d : Dir) (t : List Entry) (e : Entry) → 
 none_carried b d t e none = subst (AllByRecursion (λ up. SomeEntry (TakesData b d up.0) (t ++ e ∷ []))) (sym none) tt
 
 -- nothing more was gathered
-none_more : {A : Type 0} (xs ys : List A) → ys ≡ [] → xs ++ ys ≡ xs
+pub none_more : {A : Type 0} (xs ys : List A) → ys ≡ [] → xs ++ ys ≡ xs
 none_more xs ys none = ap (λ zs. xs ++ zs) none ∙ append-nil xs
 
 -- nothing was sent of generations to come
