@@ -1,5 +1,5 @@
 -- The master takes that the terminal did.
-use Rattle.std.proofs.Common.{ℕ, ◌≡◌, ◌++◌, List, [], ◌∷◌, Some, None, slice_get, refl, sym, ap, ◌∙◌, subst, append-nil, inr}
+use Rattle.std.proofs.Common.{ℕ, ◌≡◌, ◌++◌, List, [], ◌∷◌, Some, None, slice_get, refl, sym, ap, ◌∙◌, subst, inr}
 use Rattle.std.specs.Prelude.{Contains, if◌then◌else◌}
 use Rattle.std.specs.List.{remove}
 use Rattle.std.proofs.lemmas.Bool.{eq-eqb}
@@ -14,7 +14,7 @@ use Rattle.dc_base.specs.declared.events.Line.TheVariants as line
 use Rattle.dc_base.specs.declared.events.Note.TheVariants as note
 use Rattle.transcript.specs.Transcript.{Entry}
 use Rattle.transcript.specs.Content.{mt_ctl, tm_ctl, given}
-use Rattle.transcript.specs.Bearers.{change, Established, established, latest, is_set, key_in, confirms, confirmed_by}
+use Rattle.transcript.specs.Bearers.{change, Established, established, latest, is_set, key_in, confirms}
 use Rattle.transcript.specs.Claims.{HasCause}
 use Rattle.dc_world.specs.Plane.{leg}
 use Rattle.dc_world.specs.Control.{Nodes, is_change, ends, told_master}
@@ -23,8 +23,9 @@ use Rattle.dc_world.specs.Run.{WorldState}
 use Rattle.transcript.proofs.Establishing.{open_command-next, is_set-next, IsOnce}
 use Rattle.dc_world.proofs.Contents.{on_moved, step_given, step_due}
 use Rattle.dc_world.proofs.Plain.{IsUndrawn, plans_same, established_same, generation_same, there_before}
-use Rattle.dc_world.proofs.Silent.{no_ups, no_frees, IsSilent, silent_happened}
+use Rattle.dc_world.proofs.Silent.{no_ups, no_frees, IsSilent, silent_happened, record_confirms}
 use Rattle.dc_world.proofs.Sound.{half, sender_table, IsUnderWay, AllConfigured, Phase, idle as phase_idle, IsTabled, Happened, Sound}
+use Rattle.dc_world.proofs.Leaving.{legs_same}
 
 module _ (h : Header) (policies : ℕ) (t : List Entry) (w : WorldState) (sound : Sound h policies t w) (b : Established) (there : Contains (established t) b) where
   -- the entry
@@ -74,7 +75,7 @@ module _ (h : Header) (policies : ℕ) (t : List Entry) (w : WorldState) (sound 
       submits = λ c d. refl;
       hands = λ c d. no_ups c d t completed refl;
       moves = λ c d. no_frees c d t completed refl;
-      confirms = λ c d. elim d as (λ d. confirms c d t completed ≡ []) [ Ul ↦ ap (confirmed_by c Ul t) completed_given | Dl ↦ ap (confirmed_by c Dl t) completed_given ];
+      confirms = record_confirms t completed tm_ctl (Rcomp b.g) completed_given;
       tags = λ l id g num. refl;
     }
 
@@ -84,8 +85,7 @@ module _ (h : Header) (policies : ℕ) (t : List Entry) (w : WorldState) (sound 
 
     -- the legs are as before
     air_completed : (d : Dir) → on links_completed (leg d) ≡ on w.links (leg d)
-    air_completed Dl = on_moved w.links (Some (tm_ctl, 0)) completed.lines (leg Dl) sound.long ∙ append-nil (on w.links (leg Dl))
-    air_completed Ul = on_moved w.links (Some (tm_ctl, 0)) completed.lines (leg Ul) sound.long ∙ append-nil (on w.links (leg Ul))
+    air_completed = legs_same w.links (Some (tm_ctl, 0)) completed.lines sound.long refl refl refl refl
 
     -- no command is open
     completed_phase : on w.links mt_ctl ≡ [] → AllConfigured t w.nodes → Phase h after_completed completed_nodes links_completed

@@ -1,5 +1,5 @@
 -- The links after a flight on the leg of a direction is sent, or taken away.
-use Rattle.std.proofs.Common.{◌∷◌, ℕ, ◌≡◌, ◌⊎◌, ◌++◌, List, [], Some, length, slice_get, refl, sym, ap, ◌∙◌, subst, inl, inr}
+use Rattle.std.proofs.Common.{◌∷◌, ℕ, ◌≡◌, ◌⊎◌, ◌++◌, List, [], Some, length, slice_get, refl, sym, ap, ◌∙◌, subst, inl, inr, Option}
 use Rattle.std.specs.List.{remove}
 use Rattle.std.proofs.lemmas.List.{append-nil}
 use Rattle.dc_base.specs.declared.nodes.Dir.{Dir}
@@ -7,7 +7,7 @@ use Rattle.dc_base.specs.declared.nodes.Dir.TheVariants.{Ul, Dl}
 use Rattle.dc_base.specs.declared.nodes.LinkId.{LinkId}
 use Rattle.dc_base.specs.declared.flights.Flight.{Flight}
 use Rattle.dc_base.specs.declared.events.Line.{Line}
-use Rattle.transcript.specs.Content.{mt_ctl, tm_ctl, without_taken, put_on}
+use Rattle.transcript.specs.Content.{mt_ctl, tm_ctl, without_taken, put_on, mt_air, tm_air}
 use Rattle.transcript.specs.Bearers.{Established}
 use Rattle.dc_world.specs.Plane.{leg, other}
 use Rattle.dc_world.specs.Links.{Links, on, moved}
@@ -49,6 +49,15 @@ report_promised h t s Ul f r = a_report r
 pub ack_promised : (h : Header) (t : List Entry) (s : Nodes) (d : Dir) (f : Flight) → IsAckOf t s d f → PromiseOf h t s (leg (other d), f)
 ack_promised h t s Dl f ack = an_ack ack
 ack_promised h t s Ul f ack = an_ack ack
+
+-- the legs are as before where nothing is taken from them, or put there
+pub legs_same : (links : Links) (place : Option (LinkId × ℕ)) (lines : List Line) → length links ≡ 64
+    → without_taken mt_air place (on links mt_air) ≡ on links mt_air → without_taken tm_air place (on links tm_air) ≡ on links tm_air
+    → put_on mt_air lines ≡ [] → put_on tm_air lines ≡ [] → (d : Dir) → on (moved links place lines) (leg d) ≡ on links (leg d)
+legs_same links place lines long down up none none' Dl =
+    on_moved links place lines mt_air long ∙ ap (λ fs. without_taken mt_air place (on links mt_air) ++ fs) none ∙ append-nil _ ∙ down
+legs_same links place lines long down up none none' Ul =
+    on_moved links place lines tm_air long ∙ ap (λ fs. without_taken tm_air place (on links tm_air) ++ fs) none' ∙ append-nil _ ∙ up
 
 module _ (links : Links) (long : length links ≡ 64) (d : Dir) (i : ℕ) (f : Flight) (at : slice_get (on links (leg d)) i ≡ Some f) (lines : List Line) where
   -- what stands on a link then

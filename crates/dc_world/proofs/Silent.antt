@@ -8,7 +8,7 @@ use Rattle.dc_base.specs.declared.nodes.LinkId.{LinkId}
 use Rattle.pdcp_tx.specs.Sender.{low}
 use Rattle.pdcp_rx.specs.Receiver.{Received}
 use Rattle.transcript.specs.Transcript.{Entry, sends, SomeEntry}
-use Rattle.transcript.specs.Bearers.{Established, established, generation, submission, submitted, ups, handed, confirms, confirmed, tag_of, tags_sent, frees, up_of, freed_of, is_latest}
+use Rattle.transcript.specs.Bearers.{Established, established, generation, submission, submitted, ups, handed, confirms, confirmed, tag_of, tags_sent, frees, up_of, freed_of, is_latest, confirmed_by}
 use Rattle.transcript.specs.Claims.{TakesData, Carried, IsDataFlight, IsProtected, IsReason, HasCause, AscendsFrom, count_in, is_uncounted}
 use Rattle.dc_world.specs.Plane.{leg}
 use Rattle.dc_world.specs.Control.{Nodes}
@@ -16,9 +16,11 @@ use Rattle.dc_world.specs.Links.{Links, on, moved}
 use Rattle.transcript.proofs.Establishing.{confirmed-next, submitted-next, handed-next, tags_sent-next, generation-next}
 use Rattle.dc_world.proofs.Lane.{IsNumbered, IsNumbered-later}
 use Rattle.dc_world.proofs.Sound.{half, sender_table, receiver_table, IsNumberOf, Grows, NoneSent, IsUnderWay, IsTabled, Phase, PromiseOf, Happened, Sound}
-use Rattle.transcript.specs.Content.{mt_ctl, tm_ctl, place_taken}
+use Rattle.transcript.specs.Content.{mt_ctl, tm_ctl, place_taken, given}
 use Rattle.dc_base.specs.declared.events.Header.{Header}
 use Rattle.dc_base.specs.declared.flights.Flight.{Flight}
+use Rattle.dc_base.specs.declared.flights.Flight.TheVariants as flight
+use Rattle.dc_base.specs.declared.records.Rec.{Rec}
 use Rattle.dc_base.specs.declared.nodes.Dir.TheVariants.{Ul, Dl}
 use Rattle.dc_world.specs.Entities.{Entities}
 use Rattle.dc_world.specs.Run.{WorldState}
@@ -47,6 +49,11 @@ none_carried b d t e none = subst (AllByRecursion (λ up. SomeEntry (TakesData b
 -- nothing more was gathered
 pub none_more : {A : Type 0} (xs ys : List A) → ys ≡ [] → xs ++ ys ≡ xs
 none_more xs ys none = ap (λ zs. xs ++ zs) none ∙ append-nil xs
+
+-- a record confirms nothing
+pub record_confirms : (t : List Entry) (e : Entry) (l : LinkId) (r : Rec) → given t e ≡ Some (l, flight.Ctl r) → (b : Established) (d : Dir) → confirms b d t e ≡ []
+record_confirms t e l r is b Ul = ap (confirmed_by b Ul t) is
+record_confirms t e l r is b Dl = ap (confirmed_by b Dl t) is
 
 -- nothing was sent of generations to come
 pub none_sent_still : (t : List Entry) (e : Entry) → ((l : LinkId) (id g num : ℕ) → flat_map (tag_of l id g num) (sends e.lines) ≡ []) → NoneSent t → NoneSent (t ++ e ∷ [])
