@@ -39,6 +39,11 @@ abbrev pub with_receiver : Dir → Nodes → Table → Nodes
 with_receiver Dl s table = record s { terminal = table }
 with_receiver Ul s table = record s { master = table }
 
+-- the nodes with the table that they have
+pub same_nodes : (d : Dir) (s : Nodes) → with_sender d s (sender_table d s) ≡ s
+same_nodes Dl s = refl
+same_nodes Ul s = refl
+
 -- an identity that has a bearer is within the table
 pub within_table : (table : Table) (id : ℕ) (e : Entities) → bearer_in table id ≡ Some e → id < length table
 within_table [] id e at = absurd (cc)
