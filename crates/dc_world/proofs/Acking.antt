@@ -1,7 +1,7 @@
 -- An ack is taken.
-use Rattle.std.proofs.Common.{ℕ, ◌≡◌, ◌<◌, ◌≤◌, ◌==◌, ◌++◌, List, [], ◌∷◌, Option, Some, None, map, slice_get, refl, sym, ap, ◌∙◌, subst, arith, inl, inr}
-use Rattle.std.specs.Prelude.{Contains, nat_lt, if◌then◌else◌, ◌&&◌, count_by, fold}
-use Rattle.std.specs.List.{AllByRecursion, flat_map}
+use Rattle.std.proofs.Common.{ℕ, ◌≡◌, ◌<◌, ◌==◌, ◌++◌, List, [], ◌∷◌, Option, Some, None, map, slice_get, refl, sym, ap, ◌∙◌, subst, inl, inr}
+use Rattle.std.specs.Prelude.{Contains, nat_lt, if◌then◌else◌, ◌&&◌, fold}
+use Rattle.std.specs.List.{flat_map}
 use Rattle.std.proofs.lemmas.List.{append-nil}
 use Rattle.std.proofs.lemmas.Bool.{cases_Bool, eqb-true, eq-eqb, cond-true, cond_both}
 use Rattle.dc_base.specs.declared.nodes.Dir.{Dir}
@@ -19,7 +19,7 @@ use Rattle.pdcp_rx.specs.Receiver.{Received}
 use Rattle.transcript.specs.Transcript.{Entry, sends}
 use Rattle.transcript.specs.Content.{mt_ctl, tm_ctl, mt_air, tm_air, given, on_link}
 use Rattle.transcript.specs.Bearers.{Confirmation, acked, Established, established, is_generation_of, ends_command, has_after, submitted, up_of, freed_of, frees, confirmed_by, confirms, confirmed, tag_of, tags_sent, ups}
-use Rattle.transcript.specs.Claims.{IsDataFlight, IsProtected, IsReason, AscendsFrom, count_in, is_uncounted, step_answer, HasCause}
+use Rattle.transcript.specs.Claims.{step_answer, HasCause}
 use Rattle.dc_world.specs.Entities.{Entities, Table, bearer_in, with_bearer}
 use Rattle.dc_world.specs.Plane.{leg, other, air_taken, taken_for, flight_taken, confirmed_at, freed_lines}
 use Rattle.dc_world.specs.Control.{Nodes}
@@ -30,11 +30,11 @@ use Rattle.dc_world.proofs.Lane.{IsLane, lane_confirmed}
 use Rattle.dc_world.proofs.Tables.{with_receiver, at_the_master, Keeps, half_at, sender_put, sender_put_same, sender_put_here, sender_put_apart, sender_put_rx, keeps_all, keeps_sender}
 use Rattle.dc_world.proofs.Directions.{each_bearer, Apart, not_other}
 use Rattle.dc_world.proofs.Plain.{IsPlain, there_then, there_before, tabled_same, phase_same}
-use Rattle.dc_world.proofs.Served.{lane_same, served_next, served_still}
-use Rattle.dc_world.proofs.Silent.{no_ups, no_frees, no_move, none_carried, none_sent_still, grows_same, IsSilent, plain_happened}
+use Rattle.dc_world.proofs.Served.{lane_same, served_next, served_still, lane_of}
+use Rattle.dc_world.proofs.Silent.{no_ups, no_frees, no_move, none_carried, none_sent_still, grows_same, IsSilent, plain_happened, quiet_sent, quiet_protects, quiet_licence}
 use Rattle.dc_world.proofs.Contents.{step_given, step_due}
 use Rattle.dc_world.proofs.Leaving.{flying_after, control_down, control_up}
-use Rattle.dc_world.proofs.Sound.{or_fresh, half, sender_table, receiver_table, IsGot, IsAckOf, IsUnderWay, PromiseOf, listed, IsServed, Happened, Sound}
+use Rattle.dc_world.proofs.Sound.{or_fresh, half, sender_table, receiver_table, IsGot, IsAckOf, IsUnderWay, listed, IsServed, Happened, Sound}
 use Rattle.dc_world.proofs.Freeing.{freed_sends, freed_ups, freed_ends, freed_sets, freed_apart, freed_here, rising}
 
 -- an ack that is given is neither out of order nor aged
@@ -219,7 +219,7 @@ module _ (h : Header) (policies : ℕ) (t : List Entry) (w : WorldState) (sound 
 
     -- so was what the master held
     lane : IsLane b.n b.first (submitted b Dl t) (confirmed b Dl t) e.tx e.sent (half b w.nodes.terminal).rx
-    lane = subst (λ (x : Entities). IsLane b.n b.first (submitted b Dl t) (confirmed b Dl t) x.tx x.sent (half b w.nodes.terminal).rx) half_before was.lane
+    lane = lane_of t w.nodes w.links b Dl e was half_before
 
     -- the COUNT is confirmed
     confirms_here : confirms b Dl t heeded ≡ acked count ∷ []
@@ -283,18 +283,14 @@ module _ (h : Header) (policies : ℕ) (t : List Entry) (w : WorldState) (sound 
           served = λ b' d' there. served_all b' d' (before b' there);
           grows = grows_same t heeded w.nodes after (there_then t heeded plain.undrawn) (λ b' d' there. rx_still b' d')
               (λ b' d' there k o is. subst (λ xs. slice_get xs k ≡ Some o) (sym (sent_still b' d')) is);
-          sent = subst (AllByRecursion (PromiseOf h (t ++ heeded ∷ []) after)) (sym silent) tt;
+          sent = quiet_sent h t heeded silent after;
           none_sent = none_sent_still t heeded no_tags sound.none_sent;
-          protects = λ b' d' there. subst (AllByRecursion (λ s. IsDataFlight (t ++ heeded ∷ []) b' d' s → IsProtected h (t ++ heeded ∷ []) b' d' s)) (sym silent) tt;
+          protects = λ b' d' there. quiet_protects h t heeded silent b' d';
           carried = λ b' d' there. none_carried b' d' t heeded (nothing_up b' d');
           freed = λ b' d' there. freed_all b' d' (before b' there);
           fresh_before = λ b' there. inl (before b' there);
           cause = ack_cause Dl i b.id b.g num lines placed;
-          licence = record {
-            reasons = subst (AllByRecursion (IsReason h t heeded)) (sym silent) tt;
-            ascends = subst (λ (ss : List (LinkId × Flight)). AscendsFrom 0 (flat_map count_in ss)) (sym silent) tt;
-            one = subst (λ (ss : List (LinkId × Flight)). count_by is_uncounted ss ≤ 1) (sym silent) (omega arith);
-          };
+          licence = quiet_licence h t heeded silent;
         }
 
   -- the master takes an ack of what it sent

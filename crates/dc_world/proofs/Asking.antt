@@ -37,10 +37,10 @@ use Rattle.dc_world.proofs.Tables.{is_established, Keeps, half_at, sender_put, s
 use Rattle.dc_world.proofs.Contents.{on_moved}
 use Rattle.dc_world.proofs.Directions.{each_bearer, leg_from}
 use Rattle.dc_world.proofs.Plain.{IsPlain, there_then, there_before, tabled_same, phase_same}
-use Rattle.dc_world.proofs.Served.{lane_same, under_way_left, served_next, served_still, listed_none}
+use Rattle.dc_world.proofs.Served.{lane_same, served_next, served_still, listed_none}
 use Rattle.dc_world.proofs.Silent.{no_ups, no_frees, no_move, none_carried, none_sent_still, grows_same}
 use Rattle.dc_world.proofs.Sound.{or_fresh, half, sender_table, receiver_table, IsNumberOf, IsReportOf, IsUnderWay, Phase, listed, IsServed, Happened, Sound}
-use Rattle.dc_world.proofs.Leaving.{no_command, no_completion, report_promised}
+use Rattle.dc_world.proofs.Leaving.{no_command, no_completion, report_promised, flying_put}
 
 -- ---- what a report names
 
@@ -142,7 +142,7 @@ module _ (h : Header) (policies : ℕ) (t : List Entry) (w : WorldState) (sound 
 
     -- what was under way is so
     flying : (b' : Established) (d' : Dir) (k : ℕ) → IsUnderWay b' k (on w.links (leg d')) → IsUnderWay b' k (on links' (leg d'))
-    flying b' d' k under = subst (IsUnderWay b' k) (sym (on_then (leg d'))) (under_way_left b' k (on w.links (leg d')) (put_on (leg d') entry.lines) under)
+    flying = flying_put w.links sound.long entry.lines
 
     -- ---- the bearer
 

@@ -1,5 +1,5 @@
 -- The links after a flight on the leg of a direction is sent, or taken away.
-use Rattle.std.proofs.Common.{◌∷◌, ℕ, ◌≡◌, ◌⊎◌, ◌++◌, List, [], Some, length, slice_get, refl, sym, ap, ◌∙◌, subst, inl, inr, Option}
+use Rattle.std.proofs.Common.{◌∷◌, ℕ, ◌≡◌, ◌⊎◌, ◌++◌, List, [], Some, length, slice_get, refl, sym, ap, ◌∙◌, subst, inl, inr, Option, None}
 use Rattle.std.specs.List.{remove}
 use Rattle.std.proofs.lemmas.List.{append-nil}
 use Rattle.dc_base.specs.declared.nodes.Dir.{Dir}
@@ -49,6 +49,11 @@ report_promised h t s Ul f r = a_report r
 pub ack_promised : (h : Header) (t : List Entry) (s : Nodes) (d : Dir) (f : Flight) → IsAckOf t s d f → PromiseOf h t s (leg (other d), f)
 ack_promised h t s Dl f ack = an_ack ack
 ack_promised h t s Ul f ack = an_ack ack
+
+-- where nothing is taken away, what was under way is so still
+pub flying_put : (links : Links) → length links ≡ 64 → (lines : List Line) (b : Established) (d : Dir) (c : ℕ) → IsUnderWay b c (on links (leg d)) → IsUnderWay b c (on (moved links None lines) (leg d))
+flying_put links long lines b d c way =
+    subst (IsUnderWay b c) (sym (on_moved links None lines (leg d) long)) (under_way_left b c (on links (leg d)) (put_on (leg d) lines) way)
 
 -- the legs are as before where nothing is taken from them, or put there
 pub legs_same : (links : Links) (place : Option (LinkId × ℕ)) (lines : List Line) → length links ≡ 64

@@ -26,7 +26,8 @@ use Rattle.transcript.proofs.Establishing.{IsOnce, open_command-next, is_set-nex
 use Rattle.dc_world.proofs.Contents.{on_moved, step_given, step_due}
 use Rattle.dc_world.proofs.Plain.{IsUndrawn, plans_same, established_same, generation_same, there_then, there_before}
 use Rattle.dc_world.proofs.Silent.{no_ups, no_frees, IsSilent, silent_happened, record_confirms}
-use Rattle.dc_world.proofs.Resending.{entry, here, named, resent_apart, all_there, resending_happened}
+use Rattle.dc_world.proofs.Resending.{entry, here, named, all_there, resending_happened}
+use Rattle.dc_world.proofs.Resent.{resent_apart}
 use Rattle.dc_world.proofs.Sound.{half, sender_table, IsUnderWay, AllConfigured, Phase, idle, commanded, answered, recovering, recovered, IsTabled, Happened, Sound}
 use Rattle.dc_world.proofs.Leaving.{legs_same}
 

@@ -34,7 +34,7 @@ use Rattle.dc_world.proofs.Lane.{IsLane, lane_confirmed}
 use Rattle.dc_world.proofs.Tables.{with_sender, with_receiver, Keeps, receiver_put, receiver_put_same, keeps_receiver, half_back, put_back_here, put_back_apart, put_back_rx}
 use Rattle.dc_world.proofs.Directions.{each_bearer, Apart, leg_back}
 use Rattle.dc_world.proofs.Plain.{IsPlain, there_then, there_before, tabled_same, phase_same}
-use Rattle.dc_world.proofs.Served.{lane_same, served_next, served_still}
+use Rattle.dc_world.proofs.Served.{lane_same, served_next, served_still, lane_of}
 use Rattle.dc_world.proofs.Silent.{no_ups, no_move, none_carried, none_sent_still, grows_same}
 use Rattle.dc_world.proofs.Contents.{step_given, step_due}
 use Rattle.dc_world.proofs.Leaving.{no_command, no_completion, flying_after, control_down, control_up, ack_promised}
@@ -179,7 +179,7 @@ module _ (h : Header) (policies : ℕ) (t : List Entry) (w : WorldState) (sound 
 
     -- so was what the node held
     lane : IsLane b.n b.first (submitted b (other d) t) (confirmed b (other d) t) r.tx r.sent (half b (receiver_table (other d) w.nodes)).rx
-    lane = subst (λ (x : Entities). IsLane b.n b.first (submitted b (other d) t) (confirmed b (other d) t) x.tx x.sent (half b (receiver_table (other d) w.nodes)).rx) half_before was.lane
+    lane = lane_of t w.nodes w.links b (other d) r was half_before
 
     -- the bearer is served
     served_here : IsServed (t ++ entry ∷ []) after links' b (other d)

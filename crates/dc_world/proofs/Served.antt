@@ -21,6 +21,7 @@ use Rattle.dc_world.proofs.Lane.{IsLane}
 use Rattle.dc_world.proofs.Sound.{half, sender_table, receiver_table, CarriesCount, IsUnderWay, listed, IsServed}
 use Rattle.std.specs.Prelude.{if◌then◌else◌}
 use Rattle.std.proofs.lemmas.Bool.Decides.{nat_tests}
+use Rattle.dc_world.specs.Entities.{Entities}
 
 -- ---- what is under way
 
@@ -62,6 +63,11 @@ listed_none (x ∷ xs) zero = refl
 listed_none (x ∷ xs) (suc num) = listed_none xs num
 
 -- ---- a bearer
+
+-- the lane of a bearer, with what the node that sends holds of it
+pub lane_of : (t : List Entry) (s : Nodes) (links : Links) (b : Established) (d : Dir) (e : Entities) → IsServed t s links b d → half b (sender_table d s) ≡ e
+    → IsLane b.n b.first (submitted b d t) (confirmed b d t) e.tx e.sent (half b (receiver_table d s)).rx
+lane_of t s links b d e was is = subst (λ (x : Entities). IsLane b.n b.first (submitted b d t) (confirmed b d t) x.tx x.sent (half b (receiver_table d s)).rx) is was.lane
 
 -- a lane with equal parts
 pub lane_same : (n : SnLen) (first : ℕ) (xs xs' : List (List ℕ)) (cs cs' : List Confirmation) (tx tx' : Sender) (sent sent' : List (Option ℕ)) (rx rx' : RxParts)

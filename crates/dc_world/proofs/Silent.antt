@@ -9,7 +9,7 @@ use Rattle.pdcp_tx.specs.Sender.{low}
 use Rattle.pdcp_rx.specs.Receiver.{Received}
 use Rattle.transcript.specs.Transcript.{Entry, sends, SomeEntry}
 use Rattle.transcript.specs.Bearers.{Established, established, generation, submission, submitted, ups, handed, confirms, confirmed, tag_of, tags_sent, frees, up_of, freed_of, is_latest, confirmed_by}
-use Rattle.transcript.specs.Claims.{TakesData, Carried, IsDataFlight, IsProtected, IsReason, HasCause, AscendsFrom, count_in, is_uncounted}
+use Rattle.transcript.specs.Claims.{TakesData, Carried, IsDataFlight, IsProtected, IsReason, HasCause, AscendsFrom, count_in, is_uncounted, Protects, IsLicensed}
 use Rattle.dc_world.specs.Plane.{leg}
 use Rattle.dc_world.specs.Control.{Nodes}
 use Rattle.dc_world.specs.Links.{Links, on, moved}
@@ -107,6 +107,25 @@ module _ (t : List Entry) (e : Entry) (silent : IsSilent t e) where
   pub tags_same : (l : LinkId) (id g num : ℕ) → tags_sent l id g num (t ++ e ∷ []) ≡ tags_sent l id g num t
   tags_same l id g num = tags_sent-next l id g num t e ∙ none_more (tags_sent l id g num t) (flat_map (tag_of l id g num) (sends e.lines)) (silent.tags l id g num)
 
+-- ---- an entry that sends nothing
+
+module _ (h : Header) (t : List Entry) (e : Entry) (quiet : sends e.lines ≡ []) where
+  -- it makes no promise
+  pub quiet_sent : (s' : Nodes) → AllByRecursion (PromiseOf h (t ++ e ∷ []) s') (sends e.lines)
+  quiet_sent s' = subst (AllByRecursion (PromiseOf h (t ++ e ∷ []) s')) (sym quiet) tt
+
+  -- it has nothing to protect
+  pub quiet_protects : (b : Established) (d : Dir) → Protects h b d t e
+  quiet_protects b d = subst (AllByRecursion (λ s. IsDataFlight (t ++ e ∷ []) b d s → IsProtected h (t ++ e ∷ []) b d s)) (sym quiet) tt
+
+  -- and nothing to give a reason for
+  pub quiet_licence : IsLicensed h t e
+  quiet_licence = record {
+    reasons = subst (AllByRecursion (IsReason h t e)) (sym quiet) tt;
+    ascends = subst (λ (ss : List (LinkId × Flight)). AscendsFrom 0 (flat_map count_in ss)) (sym quiet) tt;
+    one = subst (λ (ss : List (LinkId × Flight)). count_by is_uncounted ss ≤ 1) (sym quiet) (omega arith);
+  }
+
 -- ---- all that such an entry owes, which sends nothing
 
 module _ (h : Header) (policies : ℕ) (t : List Entry) (w : WorldState) (sound : Sound h policies t w) (e : Entry) (s' : Nodes) (silent : IsSilent t e) (quiet : sends e.lines ≡ [])
@@ -133,18 +152,14 @@ module _ (h : Header) (policies : ℕ) (t : List Entry) (w : WorldState) (sound 
         (silent.submits b d) (silent.confirms b d) (silent.tags (leg d) b.id b.g) (ap (λ (x : Entities). x.tx) (same b d)) (ap (λ (x : Entities). x.sent) (same b d)) (flying b d was);
     grows = grows_same t e w.nodes s' (there_then t e undrawn) (λ b d there. ap (λ (x : Entities). x.rx) (receiver_same b d))
         (λ b d there num o is. subst (λ (x : Entities). slice_get x.sent num ≡ Some o) (sym (same b d)) is);
-    sent = subst (AllByRecursion (PromiseOf h (t ++ e ∷ []) s')) (sym quiet) tt;
+    sent = quiet_sent h t e quiet s';
     none_sent = none_sent_still t e silent.tags sound.none_sent;
-    protects = λ b d there. subst (AllByRecursion (λ s. IsDataFlight (t ++ e ∷ []) b d s → IsProtected h (t ++ e ∷ []) b d s)) (sym quiet) tt;
+    protects = λ b d there. quiet_protects h t e quiet b d;
     carried = λ b d there. none_carried b d t e (silent.hands b d);
     freed = λ b d there. silent.moves b d ∙ no_move _ _ (ap (λ (x : Entities). low x.tx) (same b d));
     fresh_before = λ b there. inl (there_before t e undrawn b there);
     cause = due;
-    licence = record {
-      reasons = subst (AllByRecursion (IsReason h t e)) (sym quiet) tt;
-      ascends = subst (λ (ss : List (LinkId × Flight)). AscendsFrom 0 (flat_map count_in ss)) (sym quiet) tt;
-      one = subst (λ (ss : List (LinkId × Flight)). count_by is_uncounted ss ≤ 1) (sym quiet) (omega arith);
-    };
+    licence = quiet_licence h t e quiet;
   }
 
   -- where it is plain and touches no control link

@@ -34,10 +34,10 @@ use Rattle.dc_world.proofs.Tables.{with_sender, is_established, Keeps, half_at, 
 use Rattle.dc_world.proofs.Contents.{on_moved}
 use Rattle.dc_world.proofs.Directions.{each_bearer, Apart, same_dir, other_dir, direction_leg, same_leg, other_leg}
 use Rattle.dc_world.proofs.Plain.{IsPlain, plans_same, generation_same, there_then, there_before, tabled_same, phase_same}
-use Rattle.dc_world.proofs.Served.{lane_same, under_way_left, served_next, served_still, under_way_last, listed_push}
+use Rattle.dc_world.proofs.Served.{lane_same, served_next, served_still, under_way_last, listed_push, lane_of}
 use Rattle.dc_world.proofs.Silent.{no_ups, no_frees, no_move, none_carried, grows_same}
 use Rattle.dc_world.proofs.Sound.{half, sender_table, receiver_table, IsNumberOf, IsPduOf, IsUnderWay, Phase, listed, IsServed, NoneSent, Happened, Sound}
-use Rattle.dc_world.proofs.Leaving.{no_command, no_completion, own_leg, promised}
+use Rattle.dc_world.proofs.Leaving.{no_command, no_completion, own_leg, promised, flying_put}
 use Rattle.dc_world.proofs.Room.{has_room}
 
 module _ (h : Header) (policies : ℕ) (t : List Entry) (w : WorldState) (sound : Sound h policies t w) where
@@ -128,7 +128,7 @@ module _ (h : Header) (policies : ℕ) (t : List Entry) (w : WorldState) (sound 
 
     -- what was under way is so
     flying : (b' : Established) (d' : Dir) (k : ℕ) → IsUnderWay b' k (on w.links (leg d')) → IsUnderWay b' k (on links' (leg d'))
-    flying b' d' k under = subst (IsUnderWay b' k) (sym (on_then (leg d'))) (under_way_left b' k (on w.links (leg d')) (put_on (leg d') entry.lines) under)
+    flying = flying_put w.links sound.long entry.lines
 
     -- ---- the bearer
 
@@ -146,7 +146,7 @@ module _ (h : Header) (policies : ℕ) (t : List Entry) (w : WorldState) (sound 
 
     -- so was what the node held
     lane : IsLane b.n b.first (submitted b d t) (confirmed b d t) e.tx e.sent (half b (receiver_table d w.nodes)).rx
-    lane = subst (λ (x : Entities). IsLane b.n b.first (submitted b d t) (confirmed b d t) x.tx x.sent (half b (receiver_table d w.nodes)).rx) half_before was.lane
+    lane = lane_of t w.nodes w.links b d e was half_before
 
     -- and what it holds then, with the next COUNT
     taken_lane : (c ≡ b.first + length (submitted b d t)) × IsLane b.n b.first (submitted b d t ++ payload ∷ []) (confirmed b d t) tx (e.sent ++ Some c ∷ []) (half b (receiver_table d w.nodes)).rx
