@@ -1,7 +1,7 @@
 -- A status report is asked for and sent, or comes.
-use Rattle.std.proofs.Common.{ℕ, ◌≡◌, ◌<◌, ◌≤◌, ◌++◌, List, [], ◌∷◌, Option, Some, None, true, false, Ok, slice_get, refl, sym, ap, ◌∙◌, subst, arith, inl, inr}
-use Rattle.std.specs.Prelude.{Contains, nat_lt, count_by, if◌then◌else◌}
-use Rattle.std.specs.List.{AllByRecursion, flat_map}
+use Rattle.std.proofs.Common.{ℕ, ◌≡◌, ◌<◌, ◌≤◌, ◌++◌, List, [], ◌∷◌, Option, Some, None, true, false, Ok, slice_get, refl, sym, ap, ◌∙◌, subst, inl, inr}
+use Rattle.std.specs.Prelude.{Contains, nat_lt, if◌then◌else◌}
+use Rattle.std.specs.List.{flat_map}
 use Rattle.std.proofs.lemmas.List.{append-nil}
 use Rattle.std.proofs.lemmas.Option.{none-some}
 use Rattle.std.proofs.lemmas.Bool.{cases_Bool, eq-eqb, cond-true}
@@ -22,7 +22,7 @@ use Rattle.pdcp_rx.specs.Receiver.{Received}
 use Rattle.transcript.specs.Transcript.{Entry, sends}
 use Rattle.transcript.specs.Content.{mt_ctl, tm_ctl, is_to, given, on_link}
 use Rattle.transcript.specs.Bearers.{Established, reported, established, submitted, ups, freed_of, frees, read_of, confirmed_by, confirms, confirmed, tag_of, tags_sent, at_submitter, submitter}
-use Rattle.transcript.specs.Claims.{IsDataFlight, IsProtected, IsReason, AscendsFrom, count_in, is_uncounted, step_answer, HasCause}
+use Rattle.transcript.specs.Claims.{step_answer, HasCause}
 use Rattle.transcript.proofs.Establishing.{is_latest_once, is_generation_once}
 use Rattle.dc_world.specs.Entities.{Entities, Table, bearer_in, with_bearer}
 use Rattle.dc_world.specs.Plane.{leg, other, air_taken, taken_for, flight_taken, pdu_taken, freed_lines, ack_line, reports}
@@ -32,16 +32,17 @@ use Rattle.dc_world.specs.Run.{WorldState}
 use Rattle.dc_world.proofs.Asking.{asked_happened}
 use Rattle.dc_world.proofs.Lane.{IsLane, lane_confirmed}
 use Rattle.dc_world.proofs.Tables.{with_sender, with_receiver, Keeps, receiver_put, receiver_put_same, keeps_receiver, half_back, put_back_here, put_back_apart, put_back_rx}
-use Rattle.dc_world.proofs.Directions.{each_bearer, Apart, leg_back}
+use Rattle.dc_world.proofs.Directions.{each_bearer, Apart}
 use Rattle.dc_world.proofs.Plain.{IsPlain, there_then, there_before, tabled_same, phase_same}
 use Rattle.dc_world.proofs.Served.{lane_same, served_next, served_still, lane_of}
 use Rattle.dc_world.proofs.Silent.{no_ups, no_move, none_carried, none_sent_still, grows_same}
 use Rattle.dc_world.proofs.Contents.{step_given, step_due}
-use Rattle.dc_world.proofs.Leaving.{no_command, no_completion, flying_after, control_down, control_up, ack_promised}
+use Rattle.dc_world.proofs.Leaving.{no_command, no_completion, flying_after, control_down, control_up}
 use Rattle.dc_world.proofs.Having.{receiver_has}
-use Rattle.dc_world.proofs.Sound.{or_fresh, half, sender_table, receiver_table, IsUnderWay, IsNumberOf, IsReportOf, IsAckOf, PromiseOf, listed, IsServed, Happened, Sound}
+use Rattle.dc_world.proofs.Sound.{or_fresh, half, sender_table, receiver_table, IsUnderWay, IsNumberOf, IsReportOf, IsAckOf, listed, IsServed, Happened, Sound}
 use Rattle.dc_world.proofs.Freeing.{freed_sends, freed_ups, freed_ends, freed_sets, freed_apart, freed_here, rising}
 use Rattle.dc_world.proofs.Taking.{pdu_confirms}
+use Rattle.dc_world.proofs.Confirming.{confirm_sent, confirm_protects, confirm_licence}
 
 -- ---- what comes on a leg
 
@@ -248,18 +249,14 @@ module _ (h : Header) (policies : ℕ) (t : List Entry) (w : WorldState) (sound 
               (λ x there busy absent k. refl) (λ x there busy. sent_still x Dl) sound.phase;
           served = λ x k there. served_all x k (before x there);
           grows = grows_same t entry w.nodes after (there_then t entry plain.undrawn) (λ x k there. rx_still x k) (λ x k there. numbers_stay x k);
-          sent = subst (AllByRecursion (PromiseOf h (t ++ entry ∷ []) after)) (sym sends_are) (ack_promised h (t ++ entry ∷ []) after d (flight.Ack b.id b.g num) the_ack, tt);
+          sent = confirm_sent h t entry d b.id b.g num sends_are after the_ack;
           none_sent = none_sent_still t entry no_tags sound.none_sent;
-          protects = λ x k there. subst (AllByRecursion (λ s. IsDataFlight (t ++ entry ∷ []) x k s → IsProtected h (t ++ entry ∷ []) x k s)) (sym sends_are) ((λ data'. absurd data'), tt);
+          protects = λ x k there. confirm_protects h t entry d b.id b.g num sends_are x k;
           carried = λ x k there. none_carried x k t entry (nothing_up x k);
           freed = λ x k there. freed_all x k (before x there);
           fresh_before = λ x there. inl (before x there);
           cause = cause_is;
-          licence = record {
-            reasons = subst (AllByRecursion (IsReason h t entry)) (sym sends_are) (record { from = leg d; back = leg_back d; tag = None; pdu = pdu; is_given = given_is }, tt);
-            ascends = subst (λ (ss : List (LinkId × Flight)). AscendsFrom 0 (flat_map count_in ss)) (sym sends_are) tt;
-            one = subst (λ (ss : List (LinkId × Flight)). count_by is_uncounted ss ≤ 1) (sym sends_are) (omega arith);
-          };
+          licence = confirm_licence h t entry d b.id b.g num sends_are None pdu given_is;
         }
 
     -- what the node's rule makes of it
