@@ -88,4 +88,3 @@ module _ (h : Header) (policies : ℕ) (t : List Entry) (w : WorldState) (sound 
           let none : at_master id t ≡ None = at_master_is h policies t w sound id ∙ ap (option_map (λ (x : Entities). x.bearer)) is in
           refuse NoBearer (sym (cond-false _ _ _ (busy_same ∙ free) ∙ cond-false _ _ _ (ap (λ (x : Option Established). is_some x) none)))
       found free (Some e) is = next h policies t w sound (Recover id) (recovered h w.nodes id (Some e)) (recover_happened h policies t w sound id e free is)
-

@@ -66,4 +66,3 @@ module _ (h : Header) (policies : ℕ) (t : List Entry) (w : WorldState) (sound 
       opened g None is = absurd cc
       opened g (Some x) is = elim (cases_Bool (is_change g x.bearer.g)) [ inl yes' ↦ (let e = rw yes' at is in absurd (cc (e))) | inr no' ↦ (let e = rw no' at is in e) ]
   serving_in Ul id e is = is
-

@@ -128,4 +128,3 @@ module _ (h : Header) (policies : ℕ) (t : List Entry) (w : WorldState) (sound 
       at T = by Ul (serving w Ul id) refl
       at A = refuse A refl
       at B = refuse B refl
-

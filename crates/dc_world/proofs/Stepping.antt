@@ -200,4 +200,3 @@ module _ (h : Header) (policies : ℕ) (t : List Entry) (w : WorldState) (sound 
       in_tunnel (Some f) at tunnel =
           absurd (no_tunnel h t w.nodes l.from l.to f
           (subst (λ c. Promise h t w.nodes l.from l.to c f) (tun_is l.class tunnel) (each_at (Promise h t w.nodes l.from l.to l.class) (on w.links l) i f (sound.promises l) at)))
-
