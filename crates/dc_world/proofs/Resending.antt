@@ -1,6 +1,6 @@
 -- A node sends again all that it keeps of a bearer: what a recovery owes at either node.
-use Rattle.std.proofs.Common.{ℕ, ◌≡◌, ◌+◌, ◌-◌, ◌<◌, ◌≤◌, ◌==◌, ◌++◌, List, [], ◌∷◌, Option, Some, None, false, length, slice_get, refl, sym, ap, ◌∙◌, subst, arith, inl, inr}
-use Rattle.std.specs.Prelude.{Contains, if◌then◌else◌, is_some, count_by}
+use Rattle.std.proofs.Common.{ℕ, ◌≡◌, ◌+◌, ◌-◌, ◌<◌, ◌≤◌, ◌==◌, ◌++◌, List, [], ◌∷◌, Option, Some, false, length, slice_get, refl, sym, ap, ◌∙◌, subst, arith, inl, inr}
+use Rattle.std.specs.Prelude.{Contains, count_by}
 use Rattle.std.specs.List.{AllByRecursion, flat_map}
 use Rattle.std.specs.Option.{option_map}
 use Rattle.std.proofs.lemmas.Bool.{ne_eqb}
@@ -19,7 +19,7 @@ use Rattle.pdcp_pdu.specs.DataPdu.{IsPayload, data_pdu}
 use Rattle.pdcp_tx.specs.Sender.{low}
 use Rattle.transcript.specs.Transcript.{Entry, sends}
 use Rattle.transcript.specs.Content.{is_same_link, put_on, place_taken, without_taken}
-use Rattle.transcript.specs.Bearers.{OpenCommand, Established, established, latest, generation, submission, submitted, confirms, confirmed, is_confirmed, up_of, freed_of, tag_of, opens, open_command, is_set, key_in, master_key}
+use Rattle.transcript.specs.Bearers.{OpenCommand, Established, established, generation, submission, submitted, confirms, confirmed, is_confirmed, up_of, freed_of, tag_of, opens, open_command, is_set, key_in, master_key}
 use Rattle.transcript.specs.Claims.{Protects, ProtectsSubmission, IsDataFlight, IsProtected, IsReason, IsLicensed, HasCause, MakesRecover, SentAgain, is_uncounted}
 use Rattle.dc_world.specs.Entities.{Entities, bearer_in}
 use Rattle.dc_world.specs.Plane.{leg, ciphered, data_flight, resends}
@@ -27,14 +27,14 @@ use Rattle.dc_world.specs.Control.{Nodes}
 use Rattle.dc_world.specs.Links.{Links, on, moved}
 use Rattle.dc_world.specs.Run.{WorldState}
 use Rattle.transcript.proofs.OnEach.{each_at}
-use Rattle.transcript.proofs.Establishing.{IsOnce, submitted-next, tags_sent-next, open_command-next, is_set-next, same_bearer, is_generation_once, established_drawn}
+use Rattle.transcript.proofs.Establishing.{submitted-next, tags_sent-next, open_command-next, is_set-next, same_bearer, is_generation_once, established_drawn}
 use Rattle.dc_world.proofs.Lists.{slice_get_left, slice_get_right}
 use Rattle.dc_world.proofs.Lane.{IsNumbered, IsLane, lane_sent, kept_unconfirmed}
 use Rattle.dc_world.proofs.Taking.{is_data_flight}
 use Rattle.dc_world.proofs.Tables.{is_established, Keeps, half_at, sender_put, sender_put_here, sender_put_apart, sender_put_rx, keeps_sender}
 use Rattle.dc_world.proofs.Contents.{on_moved}
 use Rattle.dc_world.proofs.Directions.{each_bearer, Apart, direction_leg, other_leg}
-use Rattle.dc_world.proofs.Plain.{IsUndrawn, plans_same, established_same, generation_same, there_then, there_before, is_some_map, none_mapped}
+use Rattle.dc_world.proofs.Plain.{IsUndrawn, plans_same, generation_same, there_then, there_before, none_mapped, tabled_busy}
 use Rattle.dc_world.proofs.Served.{lane_same, under_way_left, served_next, served_still, lane_of}
 use Rattle.dc_world.proofs.Silent.{no_ups, no_frees, no_move, none_carried, grows_same, none_more}
 use Rattle.dc_world.proofs.Sound.{half, sender_table, receiver_table, IsNumberOf, IsPduOf, IsUnderWay, AllConfigured, PromiseOf, Phase, listed, IsServed, IsTabled, NoneSent, Happened, Sound}
@@ -291,21 +291,8 @@ module _ (h : Header) (policies : ℕ) (t : List Entry) (w : WorldState) (sound 
     -- the nodes follow the transcript
     pub resending_tables : opens (generation t + 1) (open_command t) event answer.Ok ≡ busy → IsTabled (t ++ entry ∷ []) after
     resending_tables opened =
-        let tables = sound.tables in
-        let stand : established (t ++ entry ∷ []) ≡ established t = established_same t entry undrawn in
-        record {
-          master_long = keeps.master_long ∙ tables.master_long;
-          terminal_long = keeps.terminal_long ∙ tables.terminal_long;
-          master_is = λ k. keeps.bearers Dl k ∙ tables.master_is k ∙ ap (latest k) (sym stand);
-          terminal_is = λ k. keeps.bearers Ul k ∙ tables.terminal_is k
-              ∙ sym (ap (λ x. if x then latest k (established (t ++ entry ∷ [])) else None) (set_same k) ∙ ap (λ bs. if is_set k t then latest k bs else None) stand);
-          set_is = λ k. set_same k ∙ tables.set_is k ∙ sym (is_some_map (bearer_in w.nodes.terminal k)) ∙ ap (λ o. is_some o) (sym (keeps.bearers Ul k)) ∙ is_some_map (bearer_in after.terminal k);
-          drawn_is = keeps.drawn ∙ tables.drawn_is ∙ sym (generation_same t entry undrawn);
-          busy_is = sym (open_command-next t entry ∙ resent_ends h b d (opens (generation t + 1) (open_command t) event answer.Ok) (length e.sent) e.tx.kept ∙ opened);
-          once = subst IsOnce (sym stand) tables.once;
-          ranged = λ c is. tables.ranged c (there_before t entry undrawn c is);
-          keyed = λ c is. ap (key_in c.g c.id) (plans_same t entry undrawn) ∙ tables.keyed c (there_before t entry undrawn c is);
-        }
+        tabled_busy t entry undrawn set_same w.nodes (sender_put d w.nodes id e') keeps busy
+        (open_command-next t entry ∙ resent_ends h b d (opens (generation t + 1) (open_command t) event answer.Ok) (length e.sent) e.tx.kept ∙ opened) sound.tables
 
     -- ---- all that it owes
 
