@@ -27,13 +27,13 @@ use Rattle.dc_world.specs.Control.{Nodes}
 use Rattle.dc_world.specs.Links.{Links, on, moved}
 use Rattle.dc_world.specs.Run.{WorldState}
 use Rattle.transcript.proofs.OnEach.{each_at}
-use Rattle.transcript.proofs.Establishing.{submitted-next, tags_sent-next, open_command-next, is_set-next, same_bearer, is_generation_once, established_drawn}
+use Rattle.transcript.proofs.Establishing.{submitted-next, tags_sent-next, open_command-next, is_set-next, is_generation_once, established_drawn}
 use Rattle.dc_world.proofs.Lists.{slice_get_left, slice_get_right}
 use Rattle.dc_world.proofs.Lane.{IsNumbered, IsLane, lane_sent, kept_unconfirmed}
 use Rattle.dc_world.proofs.Taking.{is_data_flight}
 use Rattle.dc_world.proofs.Tables.{is_established, Keeps, half_at, sender_put, sender_put_here, sender_put_apart, sender_put_rx, keeps_sender}
 use Rattle.dc_world.proofs.Contents.{on_moved}
-use Rattle.dc_world.proofs.Directions.{each_bearer, Apart, direction_leg, other_leg}
+use Rattle.dc_world.proofs.Directions.{each_bearer, Apart, direction_leg, other_leg, protects_whichever}
 use Rattle.dc_world.proofs.Plain.{IsUndrawn, plans_same, generation_same, there_then, there_before, none_mapped, tabled_busy}
 use Rattle.dc_world.proofs.Served.{lane_same, under_way_left, served_next, served_still, lane_of}
 use Rattle.dc_world.proofs.Silent.{no_ups, no_frees, no_move, none_carried, grows_same, none_more}
@@ -103,10 +103,6 @@ module _ (h : Header) (policies : ℕ) (t : List Entry) (w : WorldState) (sound 
   -- of every other it holds what it held
   half_apart : (b' : Established) (d' : Dir) → Apart d id d' b'.id → half b' (sender_table d' after) ≡ half b' (sender_table d' w.nodes)
   half_apart b' d' apart = ap (half b') (sender_busy d' (sender_put d w.nodes id e') busy) ∙ sender_put_apart d w.nodes id e' b' d' apart
-
-  -- another established bearer of the identity is none
-  the_bearer : (b' : Established) → Contains (established t) b' → b'.id ≡ id → b' ≡ b
-  the_bearer b' at' same = same_bearer (established t) b' b sound.tables.once at' here (same ∙ sym named)
 
   -- the bearer was served
   was : IsServed t w.nodes w.links b d
@@ -241,11 +237,7 @@ module _ (h : Header) (policies : ℕ) (t : List Entry) (w : WorldState) (sound 
     protects_all b' d' at' = (
       (λ is. absurd is),
       each_resent h b d (λ s. IsDataFlight (t ++ entry ∷ []) b' d' s → IsProtected h (t ++ entry ∷ []) b' d' s) (length e.sent) e.tx.kept (λ k x kept is.
-          let same : b' ≡ b = the_bearer b' (there_before t entry undrawn b' at') (sym is.1 ∙ named) in
-          let dir : d' ≡ d = sym (sym (direction_leg d) ∙ is.3) in
-          let spelled : List ℕ = data_pdu b.n (sn b.n x.0) (ciphered h b.id d x.0 x.1) in
-          subst (λ k. ProtectsSubmission h (t ++ entry ∷ []) b' k b.g (Some x.0) spelled) (sym dir)
-          (subst (λ y. ProtectsSubmission h (t ++ entry ∷ []) y d b.g (Some x.0) spelled) (sym same) (protected k x kept))),
+          protects_whichever h t (t ++ entry ∷ []) sound.tables.once b b' d d' (Some x.0) (data_pdu b.n (sn b.n x.0) (ciphered h b.id d x.0 x.1)) here (there_before t entry undrawn b' at') is.1 is.3 (protected k x kept)),
     )
 
     -- it is sent again for the recovery

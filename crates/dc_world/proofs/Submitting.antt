@@ -26,13 +26,13 @@ use Rattle.dc_world.specs.Plane.{leg, ciphered, data_flight}
 use Rattle.dc_world.specs.Control.{Nodes}
 use Rattle.dc_world.specs.Links.{Links, on, moved}
 use Rattle.dc_world.specs.Run.{WorldState}
-use Rattle.transcript.proofs.Establishing.{submitted-next, tags_sent-next, same_bearer, is_latest_once, is_generation_once, established_drawn}
+use Rattle.transcript.proofs.Establishing.{submitted-next, tags_sent-next, is_latest_once, is_generation_once, established_drawn}
 use Rattle.dc_world.proofs.Lists.{slice_get_left, slice_get_last}
 use Rattle.dc_world.proofs.Lane.{IsLane, low_is, lane_taken}
 use Rattle.dc_world.proofs.Taking.{is_data_flight}
 use Rattle.dc_world.proofs.Tables.{with_sender, is_established, Keeps, half_at, sender_put_here, sender_put_apart, sender_put_rx, keeps_sender, not_opening, apart_at_master}
 use Rattle.dc_world.proofs.Contents.{on_moved}
-use Rattle.dc_world.proofs.Directions.{each_bearer, Apart, same_dir, other_dir, direction_leg, same_leg, other_leg}
+use Rattle.dc_world.proofs.Directions.{each_bearer, Apart, same_dir, other_dir, direction_leg, same_leg, other_leg, protects_whichever}
 use Rattle.dc_world.proofs.Plain.{IsPlain, plans_same, generation_same, there_then, there_before, tabled_same, phase_same}
 use Rattle.dc_world.proofs.Served.{lane_same, served_next, served_still, under_way_last, listed_push, lane_of}
 use Rattle.dc_world.proofs.Silent.{no_ups, no_frees, no_move, none_carried, grows_same}
@@ -86,10 +86,6 @@ module _ (h : Header) (policies : ℕ) (t : List Entry) (w : WorldState) (sound 
     -- and its receiving side
     rx_still : (b' : Established) (d' : Dir) → (half b' (receiver_table d' after)).rx ≡ (half b' (receiver_table d' w.nodes)).rx
     rx_still b' d' = sender_put_rx d w.nodes id e e' at refl b' d'
-
-    -- another established bearer of the identity is none
-    the_bearer : (b' : Established) → Contains (established t) b' → b'.id ≡ id → b' ≡ b
-    the_bearer b' at' same = same_bearer (established t) b' b sound.tables.once at' here (same ∙ sym named)
 
     -- ---- what the entry says
 
@@ -218,12 +214,7 @@ module _ (h : Header) (policies : ℕ) (t : List Entry) (w : WorldState) (sound 
     -- and is of no other bearer
     protects_all : (b' : Established) (d' : Dir) → Contains (established (t ++ entry ∷ [])) b' → Protects h b' d' t entry
     protects_all b' d' at' = (
-      λ is.
-          let same : b' ≡ b = the_bearer b' (there_before t entry plain.undrawn b' at') (sym is.1 ∙ named) in
-          let dir : d' ≡ d = sym (sym (direction_leg d) ∙ is.3) in
-          let pdu : List ℕ = data_pdu b.n (sn b.n c) (ciphered h b.id d c payload) in
-          subst (λ k. ProtectsSubmission h (t ++ entry ∷ []) b' k b.g (Some c) pdu) (sym dir)
-          (subst (λ x. ProtectsSubmission h (t ++ entry ∷ []) x d b.g (Some c) pdu) (sym same) protected),
+      λ is. protects_whichever h t (t ++ entry ∷ []) sound.tables.once b b' d d' (Some c) (data_pdu b.n (sn b.n c) (ciphered h b.id d c payload)) here (there_before t entry plain.undrawn b' at') is.1 is.3 protected,
       tt,
     )
 
