@@ -64,6 +64,7 @@ module _ (h : Header) (policies : ℕ) (t : List Entry) (w : WorldState) (sound 
       (refused_happened h policies t w sound (Submit id d payload) why (λ g. refl) refl (λ g o. refl) (λ b d c. refl) refl none due)
 
   module _ (id : ℕ) (d : Dir) (payload : List ℕ) (good : IsPayload payload) where
+    -- the nodes with the table that is decided on, and the outcome
     abbrev decision : Table × Outcome → Nodes × Outcome
     decision q = (with_sender d w.nodes q.0, q.1)
 
