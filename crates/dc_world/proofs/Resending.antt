@@ -1,9 +1,8 @@
 -- A node sends again all that it keeps of a bearer: what a recovery owes at either node.
-use Rattle.std.proofs.Common.{ℕ, ◌≡◌, ◌+◌, ◌-◌, ◌<◌, ◌≤◌, ◌==◌, ◌++◌, List, [], ◌∷◌, Option, Some, false, length, slice_get, refl, sym, ap, ◌∙◌, subst, arith, inl, inr}
+use Rattle.std.proofs.Common.{ℕ, ◌≡◌, ◌+◌, ◌-◌, ◌<◌, ◌==◌, ◌++◌, List, [], ◌∷◌, Option, Some, false, length, slice_get, refl, sym, ap, ◌∙◌, subst, arith, inl, inr}
 use Rattle.std.specs.Prelude.{Contains, count_by}
 use Rattle.std.specs.List.{AllByRecursion, flat_map}
 use Rattle.std.specs.Option.{option_map}
-use Rattle.std.proofs.lemmas.Bool.{ne_eqb}
 use Rattle.dc_base.specs.Count.{sn}
 use Rattle.dc_base.specs.declared.nodes.Dir.{Dir}
 use Rattle.dc_base.specs.declared.nodes.Dir.TheVariants.{Ul, Dl}
@@ -27,16 +26,16 @@ use Rattle.dc_world.specs.Control.{Nodes}
 use Rattle.dc_world.specs.Links.{Links, on, moved}
 use Rattle.dc_world.specs.Run.{WorldState}
 use Rattle.transcript.proofs.OnEach.{each_at}
-use Rattle.transcript.proofs.Establishing.{submitted-next, tags_sent-next, open_command-next, is_set-next, is_generation_once, established_drawn}
+use Rattle.transcript.proofs.Establishing.{submitted-next, open_command-next, is_set-next, is_generation_once}
 use Rattle.dc_world.proofs.Lists.{slice_get_left, slice_get_right}
 use Rattle.dc_world.proofs.Lane.{IsNumbered, IsLane, lane_sent, kept_unconfirmed}
 use Rattle.dc_world.proofs.Taking.{is_data_flight}
 use Rattle.dc_world.proofs.Tables.{is_established, Keeps, half_at, sender_put, sender_put_here, sender_put_apart, sender_put_rx, keeps_sender}
 use Rattle.dc_world.proofs.Contents.{on_moved}
 use Rattle.dc_world.proofs.Directions.{each_bearer, Apart, direction_leg, other_leg, protects_whichever}
-use Rattle.dc_world.proofs.Plain.{IsUndrawn, plans_same, generation_same, there_then, there_before, none_mapped, tabled_busy}
+use Rattle.dc_world.proofs.Plain.{IsUndrawn, plans_same, there_then, there_before, none_mapped, tabled_busy}
 use Rattle.dc_world.proofs.Served.{lane_same, under_way_left, served_next, served_still, lane_of}
-use Rattle.dc_world.proofs.Silent.{no_ups, no_frees, no_move, none_carried, grows_same, none_more}
+use Rattle.dc_world.proofs.Silent.{no_ups, no_frees, no_move, none_carried, grows_same, none_more, none_sent_drawn}
 use Rattle.dc_world.proofs.Sound.{half, sender_table, receiver_table, IsNumberOf, IsPduOf, IsUnderWay, AllConfigured, PromiseOf, Phase, listed, IsServed, IsTabled, NoneSent, Happened, Sound}
 use Rattle.dc_world.proofs.Leaving.{promised}
 use Rattle.dc_world.proofs.Resent.{counts_sent, counts_at, given_again, each_resent, resent_ups, resent_frees, resent_sets, resent_ends, resent_tags, resent_untagged, resent_ascend, resent_counted}
@@ -267,12 +266,7 @@ module _ (h : Header) (policies : ℕ) (t : List Entry) (w : WorldState) (sound 
 
     -- under a generation that was drawn
     none_sent : NoneSent (t ++ entry ∷ [])
-    none_sent k i g num later =
-        let before : generation t < g = subst (λ n. n < g) (generation_same t entry undrawn) later in
-        let drawn : b.g ≤ generation t = established_drawn t b here in
-        let unlike : (b.g == g) ≡ false = ne_eqb b.g g (λ is. omega arith) in
-        tags_sent-next k i g num t entry ∙ ap (λ xs. xs ++ flat_map (tag_of k i g num) (sends entry.lines)) (sound.none_sent k i g num before)
-        ∙ resent_untagged h b d k i g num (length e.sent) (inr (inr unlike)) e.tx.kept
+    none_sent = none_sent_drawn t entry undrawn b here (λ k i g num unlike. resent_untagged h b d k i g num (length e.sent) (inr (inr unlike)) e.tx.kept) sound.none_sent
 
     -- ---- the tables
 

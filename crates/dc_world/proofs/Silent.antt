@@ -1,8 +1,8 @@
 -- What an entry keeps that carries no data.
-use Rattle.std.proofs.Common.{ℕ, ◌≡◌, ◌+◌, ◌≤◌, ◌++◌, Option, Some, slice_get, List, [], ◌∷◌, refl, sym, ap, ◌∙◌, subst, arith, inl, inr, append-nil, ◌⊎◌}
+use Rattle.std.proofs.Common.{ℕ, ◌≡◌, ◌+◌, ◌≤◌, ◌++◌, Option, Some, slice_get, List, [], ◌∷◌, refl, sym, ap, ◌∙◌, subst, arith, inl, inr, append-nil, ◌⊎◌, ◌<◌, ◌==◌, false}
 use Rattle.std.specs.Prelude.{if◌then◌else◌, nat_lt, count_by, Contains}
 use Rattle.std.specs.List.{AllByRecursion, flat_map}
-use Rattle.std.proofs.lemmas.Bool.{cond-false, le-ltb, cases_Bool}
+use Rattle.std.proofs.lemmas.Bool.{cond-false, le-ltb, cases_Bool, ne_eqb}
 use Rattle.dc_base.specs.declared.nodes.Dir.{Dir}
 use Rattle.dc_base.specs.declared.nodes.LinkId.{LinkId}
 use Rattle.pdcp_tx.specs.Sender.{low}
@@ -13,7 +13,7 @@ use Rattle.transcript.specs.Claims.{TakesData, Carried, IsDataFlight, IsProtecte
 use Rattle.dc_world.specs.Plane.{leg}
 use Rattle.dc_world.specs.Control.{Nodes}
 use Rattle.dc_world.specs.Links.{Links, on, moved}
-use Rattle.transcript.proofs.Establishing.{confirmed-next, submitted-next, handed-next, tags_sent-next, generation-next}
+use Rattle.transcript.proofs.Establishing.{confirmed-next, submitted-next, handed-next, tags_sent-next, generation-next, established_drawn}
 use Rattle.dc_world.proofs.Lane.{IsNumbered, IsNumbered-later}
 use Rattle.dc_world.proofs.Sound.{half, sender_table, receiver_table, IsNumberOf, Grows, NoneSent, IsUnderWay, IsTabled, Phase, PromiseOf, Happened, Sound}
 use Rattle.transcript.specs.Content.{mt_ctl, tm_ctl, place_taken, given}
@@ -25,7 +25,7 @@ use Rattle.dc_base.specs.declared.nodes.Dir.TheVariants.{Ul, Dl}
 use Rattle.dc_world.specs.Entities.{Entities}
 use Rattle.dc_world.specs.Run.{WorldState}
 use Rattle.dc_world.proofs.Tables.{Keeps}
-use Rattle.dc_world.proofs.Plain.{IsUndrawn, IsPlain, there_then, there_before, tabled_same, phase_same}
+use Rattle.dc_world.proofs.Plain.{IsUndrawn, IsPlain, there_then, there_before, tabled_same, phase_same, generation_same}
 use Rattle.dc_world.proofs.Served.{served_still}
 
 -- ---- what an entry does not say
@@ -60,6 +60,15 @@ pub none_sent_still : (t : List Entry) (e : Entry) → ((l : LinkId) (id g num :
 none_sent_still t e tags none l id g num later =
     let counted : generation (t ++ e ∷ []) ≡ generation t + _ = generation-next t e in
     tags_sent-next l id g num t e ∙ none_more (tags_sent l id g num t) _ (tags l id g num) ∙ none l id g num (omega arith)
+
+-- nor was it where PDUs are sent of a generation that was drawn alone
+pub none_sent_drawn : (t : List Entry) (e : Entry) → IsUndrawn e → (b : Established) → Contains (established t) b
+    → ((l : LinkId) (id g num : ℕ) → (b.g == g) ≡ false → flat_map (tag_of l id g num) (sends e.lines) ≡ []) → NoneSent t → NoneSent (t ++ e ∷ [])
+none_sent_drawn t e undrawn b here tags none l id g num later =
+    let before : generation t < g = subst (λ n. n < g) (generation_same t e undrawn) later in
+    let drawn : b.g ≤ generation t = established_drawn t b here in
+    let unlike : (b.g == g) ≡ false = ne_eqb b.g g (λ is. omega arith) in
+    tags_sent-next l id g num t e ∙ none_more (tags_sent l id g num t) _ (tags l id g num unlike) ∙ none l id g num before
 
 -- what flights speak of is still so
 pub grows_next : (t : List Entry) (e : Entry) (s s' : Nodes) → ((b : Established) → Contains (established t) b → Contains (established (t ++ e ∷ [])) b)

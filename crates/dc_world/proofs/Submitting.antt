@@ -19,23 +19,23 @@ use Rattle.pdcp_tx.specs.Sending.{taken}
 use Rattle.pdcp_rx.specs.Receiver.{Received}
 use Rattle.transcript.specs.Transcript.{Entry, sends}
 use Rattle.transcript.specs.Content.{mt_ctl, tm_ctl, put_on, is_same_link}
-use Rattle.transcript.specs.Bearers.{Established, established, generation, is_same_dir, submission, submitted, confirms, confirmed, tag_of, told, at_submitter, master_key, key_in}
+use Rattle.transcript.specs.Bearers.{Established, established, is_same_dir, submission, submitted, confirms, confirmed, tag_of, told, at_submitter, master_key, key_in}
 use Rattle.transcript.specs.Claims.{Protects, ProtectsSubmission, IsLicensed, submit_answer}
 use Rattle.dc_world.specs.Entities.{Entities, bearer_in, with_bearer}
 use Rattle.dc_world.specs.Plane.{leg, ciphered, data_flight}
 use Rattle.dc_world.specs.Control.{Nodes}
 use Rattle.dc_world.specs.Links.{Links, on, moved}
 use Rattle.dc_world.specs.Run.{WorldState}
-use Rattle.transcript.proofs.Establishing.{submitted-next, tags_sent-next, is_latest_once, is_generation_once, established_drawn}
+use Rattle.transcript.proofs.Establishing.{submitted-next, is_latest_once, is_generation_once}
 use Rattle.dc_world.proofs.Lists.{slice_get_left, slice_get_last}
 use Rattle.dc_world.proofs.Lane.{IsLane, low_is, lane_taken}
 use Rattle.dc_world.proofs.Taking.{is_data_flight}
 use Rattle.dc_world.proofs.Tables.{with_sender, is_established, Keeps, half_at, sender_put_here, sender_put_apart, sender_put_rx, keeps_sender, not_opening, apart_at_master}
 use Rattle.dc_world.proofs.Contents.{on_moved}
 use Rattle.dc_world.proofs.Directions.{each_bearer, Apart, same_dir, other_dir, direction_leg, same_leg, other_leg, protects_whichever}
-use Rattle.dc_world.proofs.Plain.{IsPlain, plans_same, generation_same, there_then, there_before, tabled_same, phase_same}
+use Rattle.dc_world.proofs.Plain.{IsPlain, plans_same, there_then, there_before, tabled_same, phase_same}
 use Rattle.dc_world.proofs.Served.{lane_same, served_next, served_still, under_way_last, listed_push, lane_of}
-use Rattle.dc_world.proofs.Silent.{no_ups, no_frees, no_move, none_carried, grows_same}
+use Rattle.dc_world.proofs.Silent.{no_ups, no_frees, no_move, none_carried, grows_same, none_sent_drawn}
 use Rattle.dc_world.proofs.Sound.{half, sender_table, receiver_table, IsNumberOf, IsPduOf, IsUnderWay, Phase, listed, IsServed, NoneSent, Happened, Sound}
 use Rattle.dc_world.proofs.Leaving.{no_command, no_completion, own_leg, promised, flying_put}
 use Rattle.dc_world.proofs.Room.{has_room}
@@ -285,16 +285,10 @@ module _ (h : Header) (policies : ℕ) (t : List Entry) (w : WorldState) (sound 
 
     -- under a generation that was drawn
     none_sent : NoneSent (t ++ entry ∷ [])
-    none_sent l k g num later =
-        let before : generation t < g = subst (λ n. n < g) (generation_same t entry plain.undrawn) later in
-        let drawn : b.g ≤ generation t = established_drawn t b here in
-        let none : flat_map (tag_of l k g num) (sends entry.lines) ≡ [] =
-        (let unlike : (b.g == g) ≡ false = ne_eqb b.g g (λ is. omega arith) in
-        elim (cases_Bool (is_same_link l (leg d))) [
-          | inl same ↦ elim (cases_Bool (b.id == k)) [ inl named' ↦ rw (same, named', unlike) refl | inr apart ↦ rw (same, apart) refl ]
-          | inr apart ↦ rw apart refl
-        ]) in
-        tags_sent-next l k g num t entry ∙ ap (λ xs. xs ++ flat_map (tag_of l k g num) (sends entry.lines)) (sound.none_sent l k g num before) ∙ none
+    none_sent = none_sent_drawn t entry plain.undrawn b here (λ l k g num unlike. elim (cases_Bool (is_same_link l (leg d))) [
+      | inl same ↦ elim (cases_Bool (b.id == k)) [ inl named' ↦ rw (same, named', unlike) refl | inr apart ↦ rw (same, apart) refl ]
+      | inr apart ↦ rw apart refl
+    ]) sound.none_sent
 
     -- the command stands where it stood
     phase : Phase h (t ++ entry ∷ []) after links'
