@@ -1,7 +1,7 @@
 -- An ack is taken.
-use Rattle.std.proofs.Common.{ℕ, ◌≡◌, ◌<◌, ◌≤◌, ◌==◌, ◌++◌, List, [], ◌∷◌, Option, Some, None, Bool, map, slice_get, refl, sym, ap, ◌∙◌, subst, arith, inl, inr}
-use Rattle.std.specs.Prelude.{Contains, nat_lt, if◌then◌else◌, ◌&&◌, count_by, fold}
-use Rattle.std.specs.List.{AllByRecursion, flat_map}
+use Rattle.std.proofs.Common.{ℕ, ◌≡◌, ◌<◌, ◌==◌, ◌++◌, List, [], ◌∷◌, Option, Some, None, map, slice_get, refl, sym, ap, ◌∙◌, subst, inl, inr}
+use Rattle.std.specs.Prelude.{Contains, nat_lt, if◌then◌else◌, ◌&&◌, fold}
+use Rattle.std.specs.List.{flat_map}
 use Rattle.std.proofs.lemmas.List.{append-nil}
 use Rattle.std.proofs.lemmas.Bool.{cases_Bool, eqb-true, eq-eqb, cond-true, cond_both}
 use Rattle.dc_base.specs.declared.nodes.Dir.{Dir}
@@ -18,8 +18,8 @@ use Rattle.pdcp_tx.specs.Sending.{confirmed as without}
 use Rattle.pdcp_rx.specs.Receiver.{Received}
 use Rattle.transcript.specs.Transcript.{Entry, sends}
 use Rattle.transcript.specs.Content.{mt_ctl, tm_ctl, mt_air, tm_air, given, on_link}
-use Rattle.transcript.specs.Bearers.{Confirmation, acked, OpenCommand, Established, established, is_generation_of, ends_command, has_after, submitted, up_of, freed_of, frees, confirmed_by, confirms, confirmed, tag_of, tags_sent, ups}
-use Rattle.transcript.specs.Claims.{IsDataFlight, IsProtected, IsReason, AscendsFrom, count_in, is_uncounted, step_answer, HasCause}
+use Rattle.transcript.specs.Bearers.{Confirmation, acked, Established, established, is_generation_of, ends_command, has_after, submitted, up_of, freed_of, frees, confirmed_by, confirms, confirmed, tag_of, tags_sent, ups}
+use Rattle.transcript.specs.Claims.{step_answer, HasCause}
 use Rattle.dc_world.specs.Entities.{Entities, Table, bearer_in, with_bearer}
 use Rattle.dc_world.specs.Plane.{leg, other, air_taken, taken_for, flight_taken, confirmed_at, freed_lines}
 use Rattle.dc_world.specs.Control.{Nodes}
@@ -28,43 +28,14 @@ use Rattle.dc_world.specs.Run.{WorldState}
 use Rattle.transcript.proofs.Establishing.{is_latest_once, is_generation_once}
 use Rattle.dc_world.proofs.Lane.{IsLane, lane_confirmed}
 use Rattle.dc_world.proofs.Tables.{with_receiver, at_the_master, Keeps, half_at, sender_put, sender_put_same, sender_put_here, sender_put_apart, sender_put_rx, keeps_all, keeps_sender}
-use Rattle.dc_world.proofs.Directions.{each_bearer, not_named, Apart, not_other}
+use Rattle.dc_world.proofs.Directions.{each_bearer, Apart, not_other}
 use Rattle.dc_world.proofs.Plain.{IsPlain, there_then, there_before, tabled_same, phase_same}
-use Rattle.dc_world.proofs.Served.{lane_same, served_next, served_still}
-use Rattle.dc_world.proofs.Silent.{no_ups, no_frees, no_move, none_carried, none_sent_still, grows_same, IsSilent, plain_happened}
+use Rattle.dc_world.proofs.Served.{lane_same, served_next, served_still, lane_of}
+use Rattle.dc_world.proofs.Silent.{no_ups, no_frees, no_move, none_carried, none_sent_still, grows_same, IsSilent, plain_happened, quiet_sent, quiet_protects, quiet_licence}
 use Rattle.dc_world.proofs.Contents.{step_given, step_due}
 use Rattle.dc_world.proofs.Leaving.{flying_after, control_down, control_up}
-use Rattle.dc_world.proofs.Sound.{or_fresh, half, sender_table, receiver_table, IsGot, IsAckOf, IsUnderWay, PromiseOf, listed, IsServed, Happened, Sound}
-
--- ---- lines and links
-
--- a bearer of another identity, or in uplink, is not told of
-freed_apart : (b : Established) (d : Dir) (id x y : ℕ) → Apart Dl id d b.id → flat_map (freed_of b d) (freed_lines id Dl x y) ≡ []
-freed_apart b d id x y apart = elim (cases_Bool (nat_lt x y)) [ inl less ↦ rw (less, not_named Dl id d b.id apart) refl | inr most ↦ rw most refl ]
-
--- the bearer is, where Low rises
-freed_here : (b : Established) (x y : ℕ) → flat_map (freed_of b Dl) (freed_lines b.id Dl x y) ≡ (if nat_lt x y then y ∷ [] else [])
-freed_here b x y = elim (cases_Bool (nat_lt x y)) [ inl less ↦ rw (less, eq-eqb b.id b.id refl) refl | inr most ↦ rw most refl ]
-
--- such a line sends nothing
-freed_sends : (id x y : ℕ) → sends (freed_lines id Dl x y) ≡ []
-freed_sends id x y = elim (cases_Bool (nat_lt x y)) [ inl less ↦ rw less refl | inr most ↦ rw most refl ]
-
--- it hands nothing up
-freed_ups : (b : Established) (d : Dir) (id x y : ℕ) → flat_map (up_of b d) (freed_lines id Dl x y) ≡ []
-freed_ups b d id x y = elim (cases_Bool (nat_lt x y)) [ inl less ↦ rw less refl | inr most ↦ rw most refl ]
-
--- it ends no command
-freed_ends : (g : Option OpenCommand) (id x y : ℕ) → fold ends_command g (freed_lines id Dl x y) ≡ g
-freed_ends g id x y = elim (cases_Bool (nat_lt x y)) [ inl less ↦ rw less refl | inr most ↦ rw most refl ]
-
--- it sets no bearer up
-freed_sets : (k : ℕ) (has : Bool) (id x y : ℕ) → fold (has_after k) has (freed_lines id Dl x y) ≡ has
-freed_sets k has id x y = elim (cases_Bool (nat_lt x y)) [ inl less ↦ rw less refl | inr most ↦ rw most refl ]
-
--- where Low is, if that is further than before
-abbrev rising : Entities → Entities → List ℕ
-rising x y = if nat_lt (low x.tx) (low y.tx) then low y.tx ∷ [] else []
+use Rattle.dc_world.proofs.Sound.{or_fresh, half, sender_table, receiver_table, IsGot, IsAckOf, IsUnderWay, listed, IsServed, Happened, Sound}
+use Rattle.dc_world.proofs.Freeing.{freed_sends, freed_ups, freed_ends, freed_sets, freed_apart, freed_here, rising}
 
 -- an ack that is given is neither out of order nor aged
 ack_due : (d : Dir) (t : List Entry) (i id g num : ℕ) → step_answer t (leg (other d)) i (Some (flight.Ack id g num)) ≡ answer.Ok
@@ -185,6 +156,10 @@ module _ (h : Header) (policies : ℕ) (t : List Entry) (w : WorldState) (sound 
     abbrev lines : List Line
     lines = freed_lines b.id Dl (low e.tx) (low e'.tx)
 
+    -- it is all that it says
+    lines_are : lines ≡ lines ++ []
+    lines_are = sym (append-nil lines)
+
     -- what happens
     abbrev heeded : Entry
     heeded = record { event = Step tm_air i; answer = answer.Ok; lines = lines }
@@ -194,8 +169,8 @@ module _ (h : Header) (policies : ℕ) (t : List Entry) (w : WorldState) (sound 
     plain = record {
       undrawn = record { no_plan = λ g. refl; no_draw = refl };
       no_open = λ g o. refl;
-      no_end = λ g. freed_ends g b.id (low e.tx) (low e'.tx);
-      no_set = λ k has. freed_sets k has b.id (low e.tx) (low e'.tx);
+      no_end = λ g. ap (fold ends_command g) lines_are ∙ freed_ends g b.id Dl (low e.tx) (low e'.tx) [];
+      no_set = λ k has. ap (fold (has_after k) has) lines_are ∙ freed_sets k has b.id Dl (low e.tx) (low e'.tx) [];
     }
 
     -- each place keeps its bearer
@@ -212,7 +187,7 @@ module _ (h : Header) (policies : ℕ) (t : List Entry) (w : WorldState) (sound 
 
     -- nothing is sent
     silent : sends lines ≡ []
-    silent = freed_sends b.id (low e.tx) (low e'.tx)
+    silent = ap sends lines_are ∙ freed_sends b.id Dl (low e.tx) (low e'.tx) []
 
     -- so no PDU is
     no_tags : (l : LinkId) (id g k : ℕ) → flat_map (tag_of l id g k) (sends lines) ≡ []
@@ -220,7 +195,7 @@ module _ (h : Header) (policies : ℕ) (t : List Entry) (w : WorldState) (sound 
 
     -- nothing goes up
     nothing_up : (b' : Established) (d' : Dir) → ups b' d' t heeded ≡ []
-    nothing_up b' d' = no_ups b' d' t heeded (freed_ups b' d' b.id (low e.tx) (low e'.tx))
+    nothing_up b' d' = no_ups b' d' t heeded (ap (flat_map (up_of b' d')) lines_are ∙ freed_ups b' d' b.id Dl (low e.tx) (low e'.tx) [])
 
     -- PDUs under way are so
     flying_here : (b' : Established) (d' : Dir) (k : ℕ) → IsUnderWay b' k (on w.links (leg d')) → IsUnderWay b' k (on left_links (leg d'))
@@ -244,7 +219,7 @@ module _ (h : Header) (policies : ℕ) (t : List Entry) (w : WorldState) (sound 
 
     -- so was what the master held
     lane : IsLane b.n b.first (submitted b Dl t) (confirmed b Dl t) e.tx e.sent (half b w.nodes.terminal).rx
-    lane = subst (λ (x : Entities). IsLane b.n b.first (submitted b Dl t) (confirmed b Dl t) x.tx x.sent (half b w.nodes.terminal).rx) half_before was.lane
+    lane = lane_of t w.nodes w.links b Dl e was half_before
 
     -- the COUNT is confirmed
     confirms_here : confirms b Dl t heeded ≡ acked count ∷ []
@@ -293,8 +268,8 @@ module _ (h : Header) (policies : ℕ) (t : List Entry) (w : WorldState) (sound 
     freed_all b' d' there =
         cond-true _ _ _ (is_latest_once t b' sound.tables.once there)
         ∙ each_bearer (established t) sound.tables.once b here Dl b.id refl (λ x k. flat_map (freed_of x k) lines ≡ rising (half x (sender_table k w.nodes)) (half x (sender_table k after)))
-        (freed_here b (low e.tx) (low e'.tx) ∙ ap (λ x. rising x e') (sym half_before) ∙ ap (rising (half b w.nodes.master)) (sym half_after))
-        (λ x k there apart. freed_apart x k b.id (low e.tx) (low e'.tx) apart ∙ no_move _ _ (ap (λ (x : Entities). low x.tx) (sender_put_apart Dl w.nodes b.id e' x k apart))) b' d' there
+        (ap (flat_map (freed_of b Dl)) lines_are ∙ freed_here b Dl (low e.tx) (low e'.tx) [] ∙ append-nil _ ∙ ap (λ x. rising x e') (sym half_before) ∙ ap (rising (half b w.nodes.master)) (sym half_after))
+        (λ x k there apart. ap (flat_map (freed_of x k)) lines_are ∙ freed_apart x k b.id Dl (low e.tx) (low e'.tx) [] apart ∙ no_move _ _ (ap (λ (x : Entities). low x.tx) (sender_put_apart Dl w.nodes b.id e' x k apart))) b' d' there
 
     -- so all is kept
     heeded_happened : Happened h policies t w heeded after
@@ -308,18 +283,14 @@ module _ (h : Header) (policies : ℕ) (t : List Entry) (w : WorldState) (sound 
           served = λ b' d' there. served_all b' d' (before b' there);
           grows = grows_same t heeded w.nodes after (there_then t heeded plain.undrawn) (λ b' d' there. rx_still b' d')
               (λ b' d' there k o is. subst (λ xs. slice_get xs k ≡ Some o) (sym (sent_still b' d')) is);
-          sent = subst (AllByRecursion (PromiseOf h (t ++ heeded ∷ []) after)) (sym silent) tt;
+          sent = quiet_sent h t heeded silent after;
           none_sent = none_sent_still t heeded no_tags sound.none_sent;
-          protects = λ b' d' there. subst (AllByRecursion (λ s. IsDataFlight (t ++ heeded ∷ []) b' d' s → IsProtected h (t ++ heeded ∷ []) b' d' s)) (sym silent) tt;
+          protects = λ b' d' there. quiet_protects h t heeded silent b' d';
           carried = λ b' d' there. none_carried b' d' t heeded (nothing_up b' d');
           freed = λ b' d' there. freed_all b' d' (before b' there);
           fresh_before = λ b' there. inl (before b' there);
           cause = ack_cause Dl i b.id b.g num lines placed;
-          licence = record {
-            reasons = subst (AllByRecursion (IsReason h t heeded)) (sym silent) tt;
-            ascends = subst (λ (ss : List (LinkId × Flight)). AscendsFrom 0 (flat_map count_in ss)) (sym silent) tt;
-            one = subst (λ (ss : List (LinkId × Flight)). count_by is_uncounted ss ≤ 1) (sym silent) (omega arith);
-          };
+          licence = quiet_licence h t heeded silent;
         }
 
   -- the master takes an ack of what it sent

@@ -3,8 +3,7 @@ use Rattle.std.proofs.Common.{ℕ, zero, suc, ◌≡◌, ◌+◌, ◌^◌, ◌<�
 use Rattle.std.specs.Prelude.{Contains, nat_lt, ◌&&◌}
 use Rattle.std.specs.List.{AllByRecursion, flat_map}
 use Rattle.std.proofs.lemmas.List.{append-nil}
-use Rattle.std.proofs.lemmas.Option.{none-some}
-use Rattle.std.proofs.lemmas.Bool.{cases_Bool, eqb-true, eq-eqb, cond-true, or_cases, ltb-true}
+use Rattle.std.proofs.lemmas.Bool.{cases_Bool, or_cases, ltb-true}
 use Rattle.dc_base.specs.declared.nodes.Dir.{Dir}
 use Rattle.dc_base.specs.declared.nodes.Dir.TheVariants.{Ul, Dl}
 use Rattle.dc_base.specs.declared.nodes.LinkId.{LinkId}
@@ -24,7 +23,7 @@ use Rattle.pdcp_rx.specs.declared.entity.RxParts.{RxParts}
 use Rattle.transcript.specs.Text.{is_data}
 use Rattle.transcript.specs.Transcript.{Entry, sends}
 use Rattle.transcript.specs.Content.{mt_ctl, tm_ctl, put_on}
-use Rattle.transcript.specs.Bearers.{Established, change, established, latest, submitted, confirms, confirmed, tag_of, open_command, at_submitter, submitter, unless_opening}
+use Rattle.transcript.specs.Bearers.{Established, established, submitted, confirms, confirmed, tag_of, at_submitter, submitter}
 use Rattle.transcript.specs.Claims.{Protects, IsLicensed, report_answer}
 use Rattle.transcript.proofs.Establishing.{is_generation_once}
 use Rattle.dc_world.specs.Entities.{Entities, bearer_in}
@@ -34,14 +33,14 @@ use Rattle.dc_world.specs.Links.{Links, on, moved}
 use Rattle.dc_world.specs.Run.{WorldState}
 use Rattle.dc_world.proofs.Lists.{slice_get_left, slice_get_last}
 use Rattle.dc_world.proofs.Lane.{IsNumbered, numbered_below, IsLane, lane_sent}
-use Rattle.dc_world.proofs.Tables.{is_established, Keeps, half_at, sender_put, sender_put_here, sender_put_apart, sender_put_rx, sender_put_same, keeps_sender}
+use Rattle.dc_world.proofs.Tables.{is_established, Keeps, half_at, sender_put, sender_put_here, sender_put_apart, sender_put_rx, sender_put_same, keeps_sender, turned, apart_at_master}
 use Rattle.dc_world.proofs.Contents.{on_moved}
-use Rattle.dc_world.proofs.Directions.{each_bearer}
+use Rattle.dc_world.proofs.Directions.{each_bearer, leg_from}
 use Rattle.dc_world.proofs.Plain.{IsPlain, there_then, there_before, tabled_same, phase_same}
-use Rattle.dc_world.proofs.Served.{lane_same, under_way_left, served_next, served_still}
+use Rattle.dc_world.proofs.Served.{lane_same, served_next, served_still, listed_none}
 use Rattle.dc_world.proofs.Silent.{no_ups, no_frees, no_move, none_carried, none_sent_still, grows_same}
-use Rattle.dc_world.proofs.Sound.{or_fresh, half, sender_table, receiver_table, IsNumberOf, IsReportOf, IsUnderWay, PromiseOf, a_report, Phase, listed, IsServed, Happened, Sound}
-use Rattle.dc_world.proofs.Leaving.{no_command, no_completion}
+use Rattle.dc_world.proofs.Sound.{or_fresh, half, sender_table, receiver_table, IsNumberOf, IsReportOf, IsUnderWay, Phase, listed, IsServed, Happened, Sound}
+use Rattle.dc_world.proofs.Leaving.{no_command, no_completion, report_promised, flying_put}
 
 -- ---- what a report names
 
@@ -77,30 +76,6 @@ set_received rx c named =
 is_control : (fmc : ℕ) (counts : List ℕ) → is_data (report_pdu fmc counts) ≡ false
 unfolding report_pdu
 is_control fmc counts = refl
-
--- ---- numbers, legs and tables
-
--- a control PDU has no COUNT under its number
-listed_none : (xs : List (Option ℕ)) (num : ℕ) → listed (slice_get (xs ++ None ∷ []) num) ≡ listed (slice_get xs num)
-listed_none [] zero = refl
-listed_none [] (suc num) = refl
-listed_none (x ∷ xs) zero = refl
-listed_none (x ∷ xs) (suc num) = listed_none xs num
-
--- the node that sends in a direction receives in the other
-turned : (d : Dir) (s : Nodes) → receiver_table (other d) s ≡ sender_table d s
-turned Dl s = refl
-turned Ul s = refl
-
--- a leg leads from the node that sends in its direction
-leg_from : (d : Dir) → (leg d).from ≡ submitter d
-leg_from Dl = refl
-leg_from Ul = refl
-
--- a report of the direction of its leg is promised
-report_promised : (h : Header) (t : List Entry) (s : Nodes) (d : Dir) (f : Flight) → IsReportOf t s d f → PromiseOf h t s (leg d, f)
-report_promised h t s Dl f r = a_report r
-report_promised h t s Ul f r = a_report r
 
 module _ (h : Header) (policies : ℕ) (t : List Entry) (w : WorldState) (sound : Sound h policies t w) where
   module _ (d : Dir) (id : ℕ) (e : Entities) (at : bearer_in (sender_table d w.nodes) id ≡ Some e) (there : at_submitter d id t ≡ Some e.bearer) where
@@ -167,7 +142,7 @@ module _ (h : Header) (policies : ℕ) (t : List Entry) (w : WorldState) (sound 
 
     -- what was under way is so
     flying : (b' : Established) (d' : Dir) (k : ℕ) → IsUnderWay b' k (on w.links (leg d')) → IsUnderWay b' k (on links' (leg d'))
-    flying b' d' k under = subst (IsUnderWay b' k) (sym (on_then (leg d'))) (under_way_left b' k (on w.links (leg d')) (put_on (leg d') entry.lines) under)
+    flying = flying_put w.links sound.long entry.lines
 
     -- ---- the bearer
 
@@ -271,28 +246,13 @@ module _ (h : Header) (policies : ℕ) (t : List Entry) (w : WorldState) (sound 
       one = omega arith;
     }
 
-    -- the master sends nothing for a bearer whose command is open
-    unsent : (k : Dir) → k ≡ d → (b' : Established) → Contains (established t) b' → w.nodes.busy ≡ Some (change b'.g) → (half b' (sender_table Dl after)).sent ≡ (half b' (sender_table Dl w.nodes)).sent
-    unsent Ul is b' at' busy = ap (λ (x : Entities). x.sent) (sender_put_apart d w.nodes id e' b' Dl (inl (ap other is)))
-    unsent Dl is b' at' busy =
-        elim (cases_Bool (id == b'.id)) [
-          | inl same ↦
-              let opened : open_command t ≡ Some (change b'.g) = sym sound.tables.busy_is ∙ busy in
-              let found : latest id (established t) ≡ Some b' = ap (λ k. latest k (established t)) (eqb-true id b'.id same) ∙ sound.tables.once b' at' in
-              let none : unless_opening (open_command t) (latest id (established t)) ≡ None =
-              ap (λ o. unless_opening o (latest id (established t))) opened ∙ ap (unless_opening (Some (change b'.g))) found ∙ cond-true _ _ _ (eq-eqb b'.g b'.g refl) in
-              let at_master : at_submitter Dl id t ≡ Some b = ap (λ k. at_submitter k id t) is ∙ there in
-              absurd (none-some b (sym none ∙ at_master))
-          | inr apart ↦ ap (λ (x : Entities). x.sent) (sender_put_apart d w.nodes id e' b' Dl (inr apart))
-        ]
-
     -- the command stands where it stood
     phase : Phase h (t ++ entry ∷ []) after links'
     phase =
         phase_same t entry plain w.nodes after keeps h w.links links'
         (on_then mt_ctl ∙ ap (λ fs. on w.links mt_ctl ++ fs) (no_command d f) ∙ append-nil (on w.links mt_ctl))
         (on_then tm_ctl ∙ ap (λ fs. on w.links tm_ctl ++ fs) (no_completion d f) ∙ append-nil (on w.links tm_ctl))
-        (λ b' at' busy absent d'. refl) (λ b' at' busy. unsent d refl b' at' busy) sound.phase
+        (λ b' at' busy absent d'. refl) (λ b' at' busy. ap (λ (x : Entities). x.sent) (sender_put_apart d w.nodes id e' b' Dl (apart_at_master t w.nodes sound.tables d id b there b' at' busy))) sound.phase
 
     -- so all is kept
     pub asked_happened : Happened h policies t w entry after

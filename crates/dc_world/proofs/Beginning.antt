@@ -1,5 +1,5 @@
 -- The master sets a bearer up.
-use Rattle.std.proofs.Common.{ℕ, ◌≡◌, ◌+◌, ◌-◌, ◌^◌, ◌<◌, ◌≤◌, ◌==◌, ◌⊎◌, ◌++◌, List, [], ◌∷◌, Option, Some, None, true, false, refl, sym, ap, ◌∙◌, subst, arith, inl, inr, append-nil, slice_get, Bool}
+use Rattle.std.proofs.Common.{ℕ, ◌≡◌, ◌+◌, ◌-◌, ◌^◌, ◌<◌, ◌≤◌, ◌==◌, ◌⊎◌, ◌++◌, List, [], ◌∷◌, Option, Some, None, true, false, refl, sym, ap, ◌∙◌, subst, arith, inl, inr, slice_get, Bool}
 use Rattle.std.specs.Prelude.{Contains, nat_le, not, is_some, if◌then◌else◌}
 use Rattle.std.specs.List.{flat_map}
 use Rattle.std.specs.Option.{option_map}
@@ -30,16 +30,12 @@ use Rattle.dc_world.specs.Run.{WorldState}
 use Rattle.transcript.proofs.Establishing.{established-next, generation-next, plans-next, open_command-next, is_set-next, IsOnce, latest-push, once-push, contains_push, contains_left, contains_last, established_drawn, none_submitted, none_confirmed, none_handed, key_in-other, key_in-same}
 use Rattle.dc_world.proofs.Contents.{on_moved}
 use Rattle.dc_world.proofs.Tables.{bearer_in-same, bearer_in-other, length-with_bearer}
-use Rattle.dc_world.proofs.Plain.{none_mapped}
+use Rattle.dc_world.proofs.Plain.{none_mapped, is_none}
 use Rattle.dc_world.proofs.Served.{served_still}
 use Rattle.dc_world.proofs.Silent.{no_ups, no_frees, no_move, none_carried, none_sent_still, grows_same, IsSilent, submitted_same, handed_same, confirmed_same, tags_same}
 use Rattle.dc_world.proofs.Bare.{fresh_served}
 use Rattle.dc_world.proofs.Sound.{or_fresh, half, sender_table, receiver_table, IsUnderWay, IsServed, AllConfigured, Phase, idle as phase_idle, commanded as phase_commanded, answered as phase_answered, recovering as phase_recovering, recovered as phase_recovered, IsTabled, Happened, Sound}
-
--- nothing is there
-is_none : {A : Type 0} (o : Option A) → is_some o ≡ false → o ≡ None
-is_none None none = refl
-is_none (Some x) none = absurd cc
+use Rattle.dc_world.proofs.Leaving.{legs_same}
 
 module _ (h : Header) (policies : ℕ) (t : List Entry) (w : WorldState) (sound : Sound h policies t w) (id : ℕ) (n : SnLen) (first : ℕ) (shape : Shape) (threshold policy : ℕ) where
   -- the bearer, and what its command makes
@@ -241,8 +237,7 @@ module _ (h : Header) (policies : ℕ) (t : List Entry) (w : WorldState) (sound 
 
     -- the legs are as before
     began_air : (d : Dir) → on links_began (leg d) ≡ on w.links (leg d)
-    began_air Dl = on_moved w.links None began.lines (leg Dl) sound.long ∙ append-nil (on w.links (leg Dl))
-    began_air Ul = on_moved w.links None began.lines (leg Ul) sound.long ∙ append-nil (on w.links (leg Ul))
+    began_air = legs_same w.links None began.lines sound.long refl refl refl refl
 
     -- what sends is as before
     began_sender : (c : Established) (d : Dir) → Contains (established after_began) c → half c (sender_table d began_nodes) ≡ half c (sender_table d w.nodes)

@@ -1,6 +1,6 @@
 -- The master takes that the terminal did.
-use Rattle.std.proofs.Common.{ℕ, ◌≡◌, ◌++◌, List, [], ◌∷◌, Some, None, slice_get, refl, sym, ap, ◌∙◌, subst, append-nil, inr}
-use Rattle.std.specs.Prelude.{Contains, if◌then◌else◌}
+use Rattle.std.proofs.Common.{ℕ, ◌≡◌, ◌++◌, List, [], ◌∷◌, Some, None, slice_get, refl, sym, ap, ◌∙◌, subst, inr}
+use Rattle.std.specs.Prelude.{Contains}
 use Rattle.std.specs.List.{remove}
 use Rattle.std.proofs.lemmas.Bool.{eq-eqb}
 use Rattle.dc_base.specs.declared.nodes.Dir.{Dir}
@@ -14,17 +14,19 @@ use Rattle.dc_base.specs.declared.events.Line.TheVariants as line
 use Rattle.dc_base.specs.declared.events.Note.TheVariants as note
 use Rattle.transcript.specs.Transcript.{Entry}
 use Rattle.transcript.specs.Content.{mt_ctl, tm_ctl, given}
-use Rattle.transcript.specs.Bearers.{change, Established, established, latest, is_set, key_in, confirms, confirmed_by}
+use Rattle.transcript.specs.Bearers.{change, Established, established, is_set, confirms}
 use Rattle.transcript.specs.Claims.{HasCause}
 use Rattle.dc_world.specs.Plane.{leg}
 use Rattle.dc_world.specs.Control.{Nodes, is_change, ends, told_master}
 use Rattle.dc_world.specs.Links.{Links, on, moved}
 use Rattle.dc_world.specs.Run.{WorldState}
-use Rattle.transcript.proofs.Establishing.{open_command-next, is_set-next, IsOnce}
+use Rattle.transcript.proofs.Establishing.{open_command-next, is_set-next}
 use Rattle.dc_world.proofs.Contents.{on_moved, step_given, step_due}
-use Rattle.dc_world.proofs.Plain.{IsUndrawn, plans_same, established_same, generation_same, there_before}
-use Rattle.dc_world.proofs.Silent.{no_ups, no_frees, IsSilent, silent_happened}
+use Rattle.dc_world.proofs.Plain.{IsUndrawn, there_before, tabled_busy}
+use Rattle.dc_world.proofs.Silent.{no_ups, no_frees, IsSilent, silent_happened, record_confirms}
 use Rattle.dc_world.proofs.Sound.{half, sender_table, IsUnderWay, AllConfigured, Phase, idle as phase_idle, IsTabled, Happened, Sound}
+use Rattle.dc_world.proofs.Leaving.{legs_same}
+use Rattle.dc_world.proofs.Tables.{keeps_all}
 
 module _ (h : Header) (policies : ℕ) (t : List Entry) (w : WorldState) (sound : Sound h policies t w) (b : Established) (there : Contains (established t) b) where
   -- the entry
@@ -45,23 +47,7 @@ module _ (h : Header) (policies : ℕ) (t : List Entry) (w : WorldState) (sound 
 
   -- the nodes follow the transcript
   completed_tables : IsTabled after_completed completed_nodes
-  completed_tables =
-      let tables = sound.tables in
-      let stand : established after_completed ≡ established t = established_same t completed undrawn in
-      let set : (id : ℕ) → is_set id after_completed ≡ is_set id t = λ id. is_set-next id t completed in
-      record {
-        master_long = tables.master_long;
-        terminal_long = tables.terminal_long;
-        master_is = λ id. tables.master_is id ∙ ap (latest id) (sym stand);
-        terminal_is = λ id. tables.terminal_is id
-            ∙ sym (ap (λ x. if x then latest id (established after_completed) else None) (set id) ∙ ap (λ bs. if is_set id t then latest id bs else None) stand);
-        set_is = λ id. set id ∙ tables.set_is id;
-        drawn_is = tables.drawn_is ∙ sym (generation_same t completed undrawn);
-        busy_is = sym (open_command-next t completed);
-        once = subst IsOnce (sym stand) tables.once;
-        ranged = λ c is. tables.ranged c (there_before t completed undrawn c is);
-        keyed = λ c is. ap (key_in c.g c.id) (plans_same t completed undrawn) ∙ tables.keyed c (there_before t completed undrawn c is);
-      }
+  completed_tables = tabled_busy t completed undrawn (λ id. is_set-next id t completed) w.nodes w.nodes (keeps_all w.nodes) None (open_command-next t completed) sound.tables
 
   module _ (at : on w.links tm_ctl ≡ flight.Ctl (Rcomp b.g) ∷ []) where
     -- the flight that it gives
@@ -74,7 +60,7 @@ module _ (h : Header) (policies : ℕ) (t : List Entry) (w : WorldState) (sound 
       submits = λ c d. refl;
       hands = λ c d. no_ups c d t completed refl;
       moves = λ c d. no_frees c d t completed refl;
-      confirms = λ c d. elim d as (λ d. confirms c d t completed ≡ []) [ Ul ↦ ap (confirmed_by c Ul t) completed_given | Dl ↦ ap (confirmed_by c Dl t) completed_given ];
+      confirms = record_confirms t completed tm_ctl (Rcomp b.g) completed_given;
       tags = λ l id g num. refl;
     }
 
@@ -84,8 +70,7 @@ module _ (h : Header) (policies : ℕ) (t : List Entry) (w : WorldState) (sound 
 
     -- the legs are as before
     air_completed : (d : Dir) → on links_completed (leg d) ≡ on w.links (leg d)
-    air_completed Dl = on_moved w.links (Some (tm_ctl, 0)) completed.lines (leg Dl) sound.long ∙ append-nil (on w.links (leg Dl))
-    air_completed Ul = on_moved w.links (Some (tm_ctl, 0)) completed.lines (leg Ul) sound.long ∙ append-nil (on w.links (leg Ul))
+    air_completed = legs_same w.links (Some (tm_ctl, 0)) completed.lines sound.long refl refl refl refl
 
     -- no command is open
     completed_phase : on w.links mt_ctl ≡ [] → AllConfigured t w.nodes → Phase h after_completed completed_nodes links_completed

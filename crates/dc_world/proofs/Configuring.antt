@@ -1,5 +1,5 @@
 -- The terminal takes the plan of a bearer.
-use Rattle.std.proofs.Common.{ℕ, ◌≡◌, ◌==◌, ◌++◌, List, [], ◌∷◌, Some, None, true, false, slice_get, refl, sym, ap, ◌∙◌, subst, arith, inl, inr, append-nil}
+use Rattle.std.proofs.Common.{ℕ, ◌≡◌, ◌==◌, ◌++◌, List, [], ◌∷◌, Some, None, true, false, slice_get, refl, sym, ap, ◌∙◌, subst, arith, inl, inr}
 use Rattle.std.specs.Prelude.{Contains, is_some, if◌then◌else◌}
 use Rattle.std.specs.List.{remove}
 use Rattle.std.specs.Option.{option_map}
@@ -18,7 +18,7 @@ use Rattle.dc_base.specs.declared.events.Note.TheVariants as note
 use Rattle.pdcp_tx.specs.Sender.{low}
 use Rattle.transcript.specs.Transcript.{Entry}
 use Rattle.transcript.specs.Content.{mt_ctl, tm_ctl, given}
-use Rattle.transcript.specs.Bearers.{change, Established, established, latest, is_set, at_terminal, key_in, confirms, confirmed_by}
+use Rattle.transcript.specs.Bearers.{change, Established, established, latest, is_set, at_terminal, key_in, confirms}
 use Rattle.transcript.specs.Claims.{IsLicensed, HasCause}
 use Rattle.dc_world.specs.Entities.{fresh, bearer_in, with_bearer}
 use Rattle.dc_world.specs.Plane.{leg}
@@ -30,8 +30,9 @@ use Rattle.dc_world.proofs.Contents.{on_moved, step_given, step_due}
 use Rattle.dc_world.proofs.Tables.{bearer_in-same, bearer_in-other, length-with_bearer}
 use Rattle.dc_world.proofs.Plain.{IsUndrawn, plans_same, established_same, generation_same, there_then, there_before}
 use Rattle.dc_world.proofs.Served.{served_still}
-use Rattle.dc_world.proofs.Silent.{no_ups, no_frees, no_move, none_carried, none_sent_still, grows_same, IsSilent}
+use Rattle.dc_world.proofs.Silent.{no_ups, no_frees, no_move, none_carried, none_sent_still, grows_same, IsSilent, record_confirms}
 use Rattle.dc_world.proofs.Sound.{or_fresh, half, sender_table, receiver_table, IsUnderWay, IsServed, AllConfigured, Phase, answered as phase_answered, IsTabled, Happened, Sound}
+use Rattle.dc_world.proofs.Leaving.{legs_same}
 
 module _ (h : Header) (policies : ℕ) (t : List Entry) (w : WorldState) (sound : Sound h policies t w) (b : Established) (there : Contains (established t) b) (shape : Shape) (threshold policy : ℕ) where
   -- the plan of the open command
@@ -61,7 +62,7 @@ module _ (h : Header) (policies : ℕ) (t : List Entry) (w : WorldState) (sound 
       submits = λ c d. refl;
       hands = λ c d. no_ups c d t configured refl;
       moves = λ c d. no_frees c d t configured refl;
-      confirms = λ c d. elim d as (λ d. confirms c d t configured ≡ []) [ Ul ↦ ap (confirmed_by c Ul t) configured_given | Dl ↦ ap (confirmed_by c Dl t) configured_given ];
+      confirms = record_confirms t configured mt_ctl (Reconf plan h.root) configured_given;
       tags = λ l id g num. refl;
     }
 
@@ -163,8 +164,7 @@ module _ (h : Header) (policies : ℕ) (t : List Entry) (w : WorldState) (sound 
 
       -- the legs are as before
       air_configured : (d : Dir) → on links_configured (leg d) ≡ on w.links (leg d)
-      air_configured Dl = on_moved w.links (Some (mt_ctl, 0)) configured.lines (leg Dl) sound.long ∙ append-nil (on w.links (leg Dl))
-      air_configured Ul = on_moved w.links (Some (mt_ctl, 0)) configured.lines (leg Ul) sound.long ∙ append-nil (on w.links (leg Ul))
+      air_configured = legs_same w.links (Some (mt_ctl, 0)) configured.lines sound.long refl refl refl refl
 
       -- every bearer is served as before
       configured_served : (c : Established) (d : Dir) → Contains (established after_configured) c → IsServed after_configured configured_nodes links_configured c d

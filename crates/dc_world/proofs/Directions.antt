@@ -1,13 +1,16 @@
 -- The two directions, and a bearer and direction that is the one named or another.
-use Rattle.std.proofs.Common.{ℕ, ◌≡◌, ◌⊎◌, ◌==◌, true, false, refl, sym, ap, ◌∙◌, inl, inr, subst, List}
+use Rattle.std.proofs.Common.{ℕ, ◌≡◌, ◌⊎◌, ◌==◌, true, false, refl, sym, ap, ◌∙◌, inl, inr, subst, List, Option}
 use Rattle.std.specs.Prelude.{◌&&◌, Contains}
 use Rattle.std.proofs.lemmas.Bool.{cases_Bool, eqb-true, eqb-false}
 use Rattle.dc_base.specs.declared.nodes.Dir.{Dir}
 use Rattle.dc_base.specs.declared.nodes.Dir.TheVariants.{Ul, Dl}
-use Rattle.transcript.specs.Content.{direction}
-use Rattle.transcript.specs.Bearers.{Established, is_same_dir}
+use Rattle.transcript.specs.Content.{direction, is_same_link, reverse}
+use Rattle.transcript.specs.Bearers.{Established, is_same_dir, submitter, established}
 use Rattle.transcript.proofs.Establishing.{IsOnce, same_bearer}
 use Rattle.dc_world.specs.Plane.{leg, other}
+use Rattle.dc_base.specs.declared.events.Header.{Header}
+use Rattle.transcript.specs.Transcript.{Entry}
+use Rattle.transcript.specs.Claims.{ProtectsSubmission}
 
 -- a direction is this one or the other
 pub cases_dir : (d k : Dir) → (k ≡ d) ⊎ (k ≡ other d)
@@ -35,6 +38,26 @@ other_dir Dl = refl
 pub direction_leg : (d : Dir) → direction (leg d) ≡ d
 direction_leg Ul = refl
 direction_leg Dl = refl
+
+-- a leg is the same as itself
+pub same_leg : (d : Dir) → is_same_link (leg d) (leg d) ≡ true
+same_leg Dl = refl
+same_leg Ul = refl
+
+-- the legs of the two directions are two
+pub other_leg : (d : Dir) → is_same_link (leg (other d)) (leg d) ≡ false
+other_leg Dl = refl
+other_leg Ul = refl
+
+-- a leg leads from the node that sends in its direction
+pub leg_from : (d : Dir) → (leg d).from ≡ submitter d
+leg_from Dl = refl
+leg_from Ul = refl
+
+-- the other leg is the same link turned round
+pub leg_back : (d : Dir) → leg (other d) ≡ reverse (leg d)
+leg_back Dl = refl
+leg_back Ul = refl
 
 -- another direction, or another identity
 abbrev pub Apart : Dir → ℕ → Dir → ℕ → Type 0
@@ -71,3 +94,11 @@ each_bearer bs once b there d id named P here elsewhere x k at =
       | inl it ↦ subst (λ y. P y k) (same_bearer bs b x once there at (named ∙ sym it.1)) (subst (P b) (sym it.0) here)
       | inr apart ↦ elsewhere x k at apart
     ]
+
+-- a PDU on the leg of a direction, of one bearer, protects a submission of whichever bearer has its identity and direction
+pub protects_whichever : (h : Header) (t t' : List Entry) → IsOnce (established t) → (b x : Established) (d k : Dir) (tag : Option ℕ) (pdu : List ℕ) → Contains (established t) b → Contains (established t) x
+    → b.id ≡ x.id → direction (leg d) ≡ k → ProtectsSubmission h t' b d b.g tag pdu → ProtectsSubmission h t' x k b.g tag pdu
+protects_whichever h t t' once b x d k tag pdu here there named turned protected =
+    let same : x ≡ b = same_bearer (established t) x b once there here (sym named) in
+    let dir : k ≡ d = sym (sym (direction_leg d) ∙ turned) in
+    subst (λ j. ProtectsSubmission h t' x j b.g tag pdu) (sym dir) (subst (λ y. ProtectsSubmission h t' y d b.g tag pdu) (sym same) protected)

@@ -1,11 +1,11 @@
 -- One bearer in one direction: what was submitted, its sending entity, its receiving entity, and what every event keeps.
-use Rattle.std.proofs.Common.{ℕ, zero, suc, ◌≡◌, ◌+◌, ◌-◌, ◌^◌, ◌<◌, ◌≤◌, ◌⊎◌, ◌==◌, ◌||◌, ◌++◌, ◌&&◌, not, Bool, true, false, List, [], ◌∷◌, Some, None, length, take, drop, slice_get, refl, sym, ap, ◌∙◌, subst, arith, inl, inr, append_assoc}
-use Rattle.std.specs.Prelude.{Ok, Option, filter, nat_le}
+use Rattle.std.proofs.Common.{ℕ, suc, ◌≡◌, ◌+◌, ◌-◌, ◌^◌, ◌<◌, ◌≤◌, ◌⊎◌, ◌==◌, ◌||◌, ◌++◌, ◌&&◌, not, true, false, List, [], ◌∷◌, Some, None, length, take, slice_get, refl, sym, ap, ◌∙◌, subst, arith, inl, inr, append_assoc}
+use Rattle.std.specs.Prelude.{Ok, Option, filter}
 use Rattle.std.specs.List.{AllByRecursion}
 use Rattle.std.proofs.lemmas.List.{append-nil, length_push, length-take-le, take_all}
 use Rattle.std.proofs.lemmas.List.Folds.{list_any-append}
 use Rattle.std.proofs.lemmas.Option.{slice_get_within}
-use Rattle.std.proofs.lemmas.Bool.{eqb-true, eqb-false, eq-eqb, leb-false, not-true, cases_Bool, cases_lt, or_cases, or_from, or_left, or_right, and_from}
+use Rattle.std.proofs.lemmas.Bool.{eqb-true, eq-eqb, not-true, cases_Bool, cases_lt, or_cases, or_from, or_left, or_right, and_from}
 use Rattle.std.proofs.lemmas.Bool.Decides.{nat_tests}
 use Rattle.dc_base.specs.Count.{window, sn, count_for}
 use Rattle.dc_base.specs.declared.numbers.SnLen.{SnLen}
@@ -24,7 +24,8 @@ use Rattle.pdcp_rx.proofs.Putting.{put_cases}
 use Rattle.pdcp_pdu.specs.DataPdu.{IsPayload}
 use Rattle.transcript.specs.Bearers.{Confirmation, acked, reported, is_of, is_confirmed, numbered, least_but}
 use Rattle.transcript.proofs.OnEach.{each_at, each_append, each_weaker}
-use Rattle.dc_world.proofs.Lists.{slice_get_left, slice_get_last, each_filter, take_next, numbered-append, least_upto, kept_before, kept_same, least_is}
+use Rattle.dc_world.proofs.Lists.{slice_get_left, slice_get_last, each_filter, take_next, numbered-append, least_upto, kept_before, kept_same, least_is, is_stored-with_sdu_other, run_stored, stored_before_drop, but_one}
+use Rattle.dc_world.proofs.Room.{has_room}
 
 -- the payload submitted under this COUNT
 pub record IsNumbered (first : ℕ) (submitted : List (List ℕ)) (e : ℕ × List ℕ) : Type 0 where
@@ -86,22 +87,6 @@ numbered_below first submitted c p e =
 -- and is so when more come
 pub IsNumbered-later : (first : ℕ) (submitted more : List (List ℕ)) (e : ℕ × List ℕ) → IsNumbered first submitted e → IsNumbered first (submitted ++ more) e
 IsNumbered-later first submitted more e n = record { counted = n.counted; payload = slice_get_left submitted more (e.0 - first) e.1 n.payload }
-
--- nothing else than c is stored with it
-is_stored-with_sdu_other : (b c : ℕ) (p : List ℕ) (es : List (ℕ × List ℕ)) → is_stored b (with_sdu c p es) ≡ true → (b ≡ c) ⊎ (is_stored b es ≡ true)
-is_stored-with_sdu_other b c p [] h = grind (arith, nat_tests)
-is_stored-with_sdu_other b c p (e ∷ es) h = grind (arith, nat_tests, is_stored-with_sdu_other b c p es)
-
--- each COUNT of a run was stored
-run_stored : (c d : ℕ) (es : List (ℕ × List ℕ)) → c ≤ d → d < c + length (run_from c es) → is_stored d es ≡ true
-run_stored c d [] le lt = absurd (omega arith)
-run_stored c d (e ∷ es) le lt = grind (arith, nat_tests, run_stored (c + 1) d es)
-
--- what is left was there
-stored_before_drop : (k c : ℕ) (es : List (ℕ × List ℕ)) → is_stored c (drop k es) ≡ true → is_stored c es ≡ true
-stored_before_drop zero c es h = h
-stored_before_drop (suc k) c [] h = absurd cc
-stored_before_drop (suc k) c (e ∷ es) h = grind (arith, nat_tests, stored_before_drop k c es)
 
 -- nothing but c becomes received
 pub Received-only : (r : RxParts) (c d : ℕ) (p : List ℕ) → Received (put r c p).0 d → (d ≡ c) ⊎ Received r d
@@ -175,35 +160,10 @@ stored_submitted first submitted c (e ∷ es) all stored =
       | inr later ↦ stored_submitted first submitted c es all.1 later
     ]
 
--- what a submission that is taken leaves, and why it is taken
-record IsTaken (s after : Sender) (p : List ℕ) (c : ℕ) : Type 0 where
-  room : s.next < low s + window s.n
-  left : s.next ≡ 2 ^ 32 - 1 → ⊥
-  is : ◌≡◌ {A = Sender × ℕ} (record s { next = s.next + 1; kept = s.kept ++ (s.next, p) ∷ [] }, s.next) (after, c)
-
--- a submission that is taken had room, and a COUNT was left
-taken_is : (s after : Sender) (p : List ℕ) (c : ℕ) → taken s p ≡ Ok (after, c) → IsTaken s after p c
-taken_is s after p c ok =
-    elim (cases_Bool (nat_le (low s + window s.n) s.next)) [
-      | inl full ↦ let e = rw full at ok in absurd (cc (e))
-      | inr room ↦
-          let e = rw room at ok in
-          elim (cases_Bool (s.next == 2 ^ 32 - 1)) [
-            | inl last ↦ let f = rw last at e in absurd (cc (f))
-            | inr left ↦ let f = rw left at e in record { room = leb-false _ _ room; left = eqb-false _ _ left; is = cc (f) }
-          ]
-    ]
-
 -- a COUNT that was given is so when more are
 pub IsGiven-later : (first next next' : ℕ) (o : Option ℕ) → next ≤ next' → IsGiven first next o → IsGiven first next' o
 IsGiven-later first next next' None le is = is
 IsGiven-later first next next' (Some c) le is = (is.0, omega (arith, is.1))
-
--- a COUNT is left where it is neither among these nor the one
-but_one : (b i : Bool) → (not b && not i) ≡ not (b || (i || false))
-but_one true i = refl
-but_one false true = refl
-but_one false false = refl
 
 -- Low does not fall where some are confirmed
 pub low_but : (tx : Sender) (x : Confirmation) → low tx ≤ low (record tx { kept = filter (λ e. not (is_of e.0 x)) tx.kept })
@@ -256,7 +216,7 @@ module _ (n : SnLen) (first : ℕ) (submitted : List (List ℕ)) (confirms : Lis
   pub lane_taken : (p : List ℕ) (tx' : Sender) (c : ℕ) → IsPayload p → taken tx p ≡ Ok (tx', c)
       → (c ≡ first + length submitted) × IsLane n first (submitted ++ p ∷ []) confirms tx' (sent ++ Some c ∷ []) rx
   lane_taken p tx' c good ok =
-      let t = taken_is tx tx' p c ok in
+      let t = has_room tx tx' p c ok in
       let after : Sender = record tx { next = tx.next + 1; kept = tx.kept ++ (tx.next, p) ∷ [] } in
       let counted = lane.counted in let small = lane.small in let left = t.left in let room = t.room in let upto = lane.upto in
       let grown : length (submitted ++ p ∷ []) ≡ length submitted + 1 = length_push submitted p in

@@ -1,19 +1,27 @@
 -- Lists of payloads and of their COUNTs: places in them, and one more at the end.
-use Rattle.std.proofs.Common.{ℕ, zero, suc, ◌≡◌, ◌+◌, ◌<◌, ◌≤◌, ◌==◌, ◌||◌, ◌++◌, Bool, true, false, not, List, [], ◌∷◌, Some, length, take, slice_get, refl, ap, ◌∙◌, subst, arith, inl, inr}
+use Rattle.std.proofs.Common.{ℕ, zero, suc, ◌≡◌, ◌+◌, ◌<◌, ◌≤◌, ◌==◌, ◌||◌, ◌++◌, Bool, true, false, not, List, [], ◌∷◌, Some, length, take, slice_get, refl, ap, ◌∙◌, subst, arith, inl, inr, ◌⊎◌, drop, ◌&&◌}
 use Rattle.std.specs.Prelude.{filter}
 use Rattle.std.specs.List.{AllByRecursion}
 use Rattle.std.proofs.lemmas.Bool.{cases_Bool, eqb-true, or_cases, or_right}
 use Rattle.std.proofs.lemmas.Bool.Decides.{nat_tests}
 use Rattle.pdcp_tx.specs.Sender.{Entry, least, is_kept, Rises}
 use Rattle.pdcp_tx.proofs.Entries.{Rises-bounds}
-use Rattle.pdcp_rx.specs.Run.{IsConsecutive}
+use Rattle.pdcp_rx.specs.Run.{IsConsecutive, run_from}
 use Rattle.transcript.specs.Bearers.{Confirmation, is_confirmed, numbered, least_but}
+use Rattle.pdcp_rx.specs.Entries.{is_stored, with_sdu}
 
 -- a place of the first list is one of the two
 pub slice_get_left : {X : Type 0} (xs ys : List X) (k : ℕ) (x : X) → slice_get xs k ≡ Some x → slice_get (xs ++ ys) k ≡ Some x
 slice_get_left [] ys k x h = absurd cc
 slice_get_left (y ∷ xs) ys zero x h = h
 slice_get_left (y ∷ xs) ys (suc k) x h = slice_get_left xs ys k x h
+
+-- a place of the second list, after the first
+pub slice_get_right : {X : Type 0} (xs ys : List X) (k : ℕ) (y : X) → slice_get ys k ≡ Some y → slice_get (xs ++ ys) (length xs + k) ≡ Some y
+slice_get_right [] ys k y at = subst (λ i. slice_get ys i ≡ Some y) (omega arith) at
+slice_get_right (x ∷ xs) ys k y at =
+    let next : suc (length xs + k) ≡ suc (length xs) + k = omega arith in
+    subst (λ i. slice_get (x ∷ (xs ++ ys)) i ≡ Some y) next (slice_get_right xs ys k y at)
 
 -- the last place
 pub slice_get_last : {X : Type 0} (xs : List X) (x : X) → slice_get (xs ++ x ∷ []) (length xs) ≡ Some x
@@ -73,6 +81,12 @@ Rises-past c next (e ∷ es) lt none up =
 Rises-none : (c : ℕ) (es : List Entry) → Rises c c es → least c es ≡ c
 Rises-none c es up = let bounds = Rises-bounds c c es up in omega (arith, bounds.0, bounds.1)
 
+-- a COUNT is left where it is neither among these nor the one
+pub but_one : (b i : Bool) → (not b && not i) ≡ not (b || (i || false))
+but_one true i = refl
+but_one false true = refl
+but_one false false = refl
+
 -- where what is kept are the COUNTs not confirmed, the least kept is the least not confirmed
 pub least_is : (confirms : List Confirmation) (k c : ℕ) (es : List Entry) → Rises c (c + k) es
     → ((d : ℕ) → c ≤ d → d < c + k → is_kept es d ≡ not (is_confirmed confirms d)) → least (c + k) es ≡ least_but confirms c k
@@ -89,6 +103,24 @@ least_is confirms (suc k) c es up are =
           let bounds = Rises-bounds c (c + suc k) es up in
           rw left (omega (arith, bounds.0))
     ]
+
+-- ---- what is stored
+
+-- nothing else than c is stored with it
+pub is_stored-with_sdu_other : (b c : ℕ) (p : List ℕ) (es : List (ℕ × List ℕ)) → is_stored b (with_sdu c p es) ≡ true → (b ≡ c) ⊎ (is_stored b es ≡ true)
+is_stored-with_sdu_other b c p [] h = grind (arith, nat_tests)
+is_stored-with_sdu_other b c p (e ∷ es) h = grind (arith, nat_tests, is_stored-with_sdu_other b c p es)
+
+-- each COUNT of a run was stored
+pub run_stored : (c d : ℕ) (es : List (ℕ × List ℕ)) → c ≤ d → d < c + length (run_from c es) → is_stored d es ≡ true
+run_stored c d [] le lt = absurd (omega arith)
+run_stored c d (e ∷ es) le lt = grind (arith, nat_tests, run_stored (c + 1) d es)
+
+-- what is left was there
+pub stored_before_drop : (k c : ℕ) (es : List (ℕ × List ℕ)) → is_stored c (drop k es) ≡ true → is_stored c es ≡ true
+stored_before_drop zero c es h = h
+stored_before_drop (suc k) c [] h = absurd cc
+stored_before_drop (suc k) c (e ∷ es) h = grind (arith, nat_tests, stored_before_drop k c es)
 
 -- ---- what goes up
 

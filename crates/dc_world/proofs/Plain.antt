@@ -9,7 +9,7 @@ use Rattle.dc_base.specs.declared.nodes.Dir.TheVariants.{Ul, Dl}
 use Rattle.dc_base.specs.declared.events.Header.{Header}
 use Rattle.transcript.specs.Transcript.{Entry}
 use Rattle.transcript.specs.Content.{mt_ctl, tm_ctl}
-use Rattle.transcript.specs.Bearers.{OpenCommand, change, opens, Established, established, established_by, latest, generation, is_draw, plan_of, plans, ends_command, open_command, has_after, is_set, at_terminal, key_in, submission}
+use Rattle.transcript.specs.Bearers.{OpenCommand, change, opens, Established, established, established_by, latest, generation, is_draw, plan_of, plans, ends_command, open_command, has_after, is_set, key_in, submission}
 use Rattle.dc_world.specs.Entities.{Entities, bearer_in}
 use Rattle.dc_world.specs.Control.{Nodes}
 use Rattle.dc_world.specs.Links.{Links, on}
@@ -63,12 +63,6 @@ module _ (t : List Entry) (e : Entry) (plain : IsPlain e) where
       ∙ ap (λ o. fold ends_command o e.lines) (plain.no_open (generation t + 1) (open_command t))
       ∙ plain.no_end (open_command t)
 
-  -- the terminal has the same bearers
-  at_terminal_same : (id : ℕ) → at_terminal id (t ++ e ∷ []) ≡ at_terminal id t
-  at_terminal_same id =
-      ap (λ c. if c then latest id (established (t ++ e ∷ [])) else None) (is_set-next id t e ∙ plain.no_set id (is_set id t))
-      ∙ ap (λ bs. if is_set id t then latest id bs else None) (established_same t e plain.undrawn)
-
 -- ---- with nodes that keep their bearers
 
 -- entities are there where their bearer is
@@ -76,26 +70,37 @@ pub is_some_map : (o : Option Entities) → is_some (option_map (λ e. e.bearer)
 is_some_map None = refl
 is_some_map (Some e) = refl
 
+-- nothing is there
+pub is_none : {A : Type 0} (o : Option A) → is_some o ≡ false → o ≡ None
+is_none None none = refl
+is_none (Some x) none = absurd cc
+
 -- a place with no bearer has no entities
 pub none_mapped : (x : Option Entities) → option_map (λ e. e.bearer) x ≡ None → x ≡ None
-none_mapped None is = refl
-none_mapped (Some x) is = absurd cc
+none_mapped x is = is_none x (sym (is_some_map x) ∙ ap (λ (o : Option Established). is_some o) is)
+
+-- where each place keeps its bearer, and the terminal is told of none, the nodes follow the transcript with the command that is open then
+pub tabled_busy : (t : List Entry) (e : Entry) → IsUndrawn e → ((id : ℕ) → is_set id (t ++ e ∷ []) ≡ is_set id t) → (s s' : Nodes) → Keeps s s'
+    → (o : Option OpenCommand) → open_command (t ++ e ∷ []) ≡ o → IsTabled t s → IsTabled (t ++ e ∷ []) (record s' { busy = o })
+tabled_busy t e undrawn set' s s' keeps o opened was = record {
+  master_long = keeps.master_long ∙ was.master_long;
+  terminal_long = keeps.terminal_long ∙ was.terminal_long;
+  master_is = λ id. keeps.bearers Dl id ∙ was.master_is id ∙ ap (latest id) (sym (established_same t e undrawn));
+  terminal_is = λ id. keeps.bearers Ul id ∙ was.terminal_is id
+      ∙ sym (ap (λ c. if c then latest id (established (t ++ e ∷ [])) else None) (set' id) ∙ ap (λ bs. if is_set id t then latest id bs else None) (established_same t e undrawn));
+  set_is = λ id. set' id ∙ was.set_is id ∙ sym (is_some_map (bearer_in s.terminal id)) ∙ ap (λ o. is_some o) (sym (keeps.bearers Ul id)) ∙ is_some_map (bearer_in s'.terminal id);
+  drawn_is = keeps.drawn ∙ was.drawn_is ∙ sym (generation_same t e undrawn);
+  busy_is = sym opened;
+  once = subst IsOnce (sym (established_same t e undrawn)) was.once;
+  ranged = λ b there. was.ranged b (there_before t e undrawn b there);
+  keyed = λ b there. ap (key_in b.g b.id) (plans_same t e undrawn) ∙ was.keyed b (there_before t e undrawn b there);
+}
 
 module _ (t : List Entry) (e : Entry) (plain : IsPlain e) (s s' : Nodes) (keeps : Keeps s s') where
   -- the nodes still have the bearers of the transcript
   pub tabled_same : IsTabled t s → IsTabled (t ++ e ∷ []) s'
-  tabled_same was = record {
-    master_long = keeps.master_long ∙ was.master_long;
-    terminal_long = keeps.terminal_long ∙ was.terminal_long;
-    master_is = λ id. keeps.bearers Dl id ∙ was.master_is id ∙ ap (latest id) (sym (established_same t e plain.undrawn));
-    terminal_is = λ id. keeps.bearers Ul id ∙ was.terminal_is id ∙ sym (at_terminal_same t e plain id);
-    set_is = λ id. is_set-next id t e ∙ plain.no_set id (is_set id t) ∙ was.set_is id ∙ sym (is_some_map (bearer_in s.terminal id)) ∙ ap (λ o. is_some o) (sym (keeps.bearers Ul id)) ∙ is_some_map (bearer_in s'.terminal id);
-    drawn_is = keeps.drawn ∙ was.drawn_is ∙ sym (generation_same t e plain.undrawn);
-    busy_is = keeps.busy ∙ was.busy_is ∙ sym (open_same t e plain);
-    once = subst IsOnce (sym (established_same t e plain.undrawn)) was.once;
-    ranged = λ b there. was.ranged b (there_before t e plain.undrawn b there);
-    keyed = λ b there. ap (key_in b.g b.id) (plans_same t e plain.undrawn) ∙ was.keyed b (there_before t e plain.undrawn b there);
-  }
+  tabled_same was =
+      tabled_busy t e plain.undrawn (λ id. is_set-next id t e ∙ plain.no_set id (is_set id t)) s s' keeps s'.busy (open_same t e plain ∙ sym was.busy_is ∙ sym keeps.busy) was
 
   -- a bearer that the terminal lacks then was lacking
   none_before : (k : ℕ) → bearer_in s'.terminal k ≡ None → bearer_in s.terminal k ≡ None

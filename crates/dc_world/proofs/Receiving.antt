@@ -1,6 +1,6 @@
 -- A data PDU is taken, or is aged.
 use Rattle.std.proofs.Common.{ℕ, ◌≡◌, ◌+◌, ◌-◌, ◌<◌, ◌≤◌, ◌⊎◌, ◌==◌, ◌++◌, List, [], ◌∷◌, Option, Some, true, false, length, map, take, slice_get, refl, sym, ap, ◌∙◌, subst, arith, inl, inr}
-use Rattle.std.specs.Prelude.{Contains, count_by, nat_lt, ◌&&◌, if◌then◌else◌}
+use Rattle.std.specs.Prelude.{Contains, nat_lt, ◌&&◌, if◌then◌else◌}
 use Rattle.std.specs.List.{AllByRecursion, flat_map}
 use Rattle.std.proofs.lemmas.List.{append-nil}
 use Rattle.std.proofs.lemmas.Option.{same_Some}
@@ -22,9 +22,9 @@ use Rattle.pdcp_rx.specs.Receiver.{put, handed_of, Received}
 use Rattle.pdcp_rx.proofs.Laws.{Received-put, Received-put_same, handed_consecutive}
 use Rattle.pdcp_tx.specs.Sender.{Sender, low}
 use Rattle.transcript.specs.Transcript.{Entry, sends, SomeEntry}
-use Rattle.transcript.specs.Content.{mt_ctl, tm_ctl, given, put_on, on_link, reverse, direction}
+use Rattle.transcript.specs.Content.{mt_ctl, tm_ctl, given, put_on, on_link, direction}
 use Rattle.transcript.specs.Bearers.{Established, established, latest, submitted, ups, handed, numbered, confirmed, confirms, confirmed_by, tag_of, tags_sent, frees, is_same_dir}
-use Rattle.transcript.specs.Claims.{TakesData, IsDataFlight, IsProtected, Carried, IsReason, AscendsFrom, count_in, is_uncounted, receiver, due_answer, step_answer, is_behind as is_behind_in, is_aged as is_aged_in}
+use Rattle.transcript.specs.Claims.{TakesData, Carried, receiver, due_answer, step_answer, is_behind as is_behind_in, is_aged as is_aged_in}
 use Rattle.transcript.proofs.OnEach.{each_weaker}
 use Rattle.transcript.proofs.Growing.{SomeEntry-later, SomeEntry-last}
 use Rattle.dc_world.specs.Entities.{Entities, Table, bearer_in, with_bearer}
@@ -34,7 +34,7 @@ use Rattle.dc_world.specs.Links.{Links, on, moved}
 use Rattle.dc_world.specs.Run.{WorldState}
 use Rattle.transcript.proofs.Establishing.{submitted-next, handed-next, confirmed-next, tags_sent-next, same_bearer, is_latest_once, is_generation_once}
 use Rattle.dc_world.proofs.Lane.{IsNumbered, IsLane, numbered_below, Received-only, put_below, found_by_sn, lane_put, lane_handed}
-use Rattle.dc_world.proofs.Sound.{half, or_fresh, sender_table, receiver_table, CarriesCount, IsUnderWay, IsNumberOf, IsPduOf, IsAckOf, an_ack, PromiseOf, listed, IsServed, Happened, Sound}
+use Rattle.dc_world.proofs.Sound.{half, or_fresh, sender_table, receiver_table, CarriesCount, IsUnderWay, IsNumberOf, IsPduOf, IsAckOf, listed, IsServed, Happened, Sound}
 use Rattle.dc_world.proofs.Tables.{with_receiver, deliv_is, Keeps, receiver_put, receiver_put_same, receiver_put_here, receiver_put_apart, keeps_all, keeps_receiver}
 use Rattle.dc_world.proofs.Directions.{each_bearer, Apart, same_dir, direction_leg, not_apart, not_named}
 use Rattle.dc_world.proofs.Plain.{IsPlain, there_then, there_before, tabled_same, phase_same}
@@ -46,6 +46,7 @@ use Rattle.dc_world.proofs.Upwards.{sends_after_ups, ups_here, ups_elsewhere, fr
 use Rattle.dc_world.proofs.Taking.{taken_data, is_data_flight, data_confirmed}
 use Rattle.dc_world.proofs.Lists.{consecutive_from, each_both}
 use Rattle.dc_world.proofs.Having.{receiver_has}
+use Rattle.dc_world.proofs.Confirming.{confirm_sent, confirm_protects, confirm_licence}
 
 -- ---- one flight of a submission
 
@@ -358,35 +359,18 @@ module _ (h : Header) (policies : ℕ) (t : List Entry) (w : WorldState) (sound 
     grows = grows_next t entry w.nodes s' (there_then t entry plain.undrawn) (all_from (λ x k. (a : ℕ) → Received (half x (receiver_table k w.nodes)).rx a → Received (half x (receiver_table k s')).rx a)
         (λ a got. subst (λ x. Received x a) (sym rx_here) (Received-put r.rx a c p (subst (λ (x : Entities). Received x.rx a) half_is got)))
         (λ x k in_t apart a got. subst (λ y. Received y a) (sym (rx_elsewhere x k apart)) got)) (λ x k in_t. still_placed x k);
-    sent = subst (AllByRecursion (PromiseOf h t' s')) (sym sends_are) (promise d refl, tt);
+    sent = confirm_sent h t entry d b.id b.g num sends_are s' the_ack;
     none_sent = none_sent_still t entry tags_none sound.none_sent;
-    protects = λ x k in_t. subst (AllByRecursion (λ s. IsDataFlight t' x k s → IsProtected h t' x k s)) (sym sends_are) ((λ data'. absurd data'), tt);
+    protects = λ x k in_t. confirm_protects h t entry d b.id b.g num sends_are x k;
     carried = λ x k in_t. all_from (λ x k. Carried x k t entry)
         (subst (AllByRecursion (λ u. SomeEntry (TakesData b d u.0) t')) (sym ups_b) run_came)
         (λ x k in_t apart. none_carried x k t entry (ups_other x k apart)) x k (back x in_t);
     freed = λ x k in_t. frees_none x k ∙ no_move _ _ (ap low (tx_same x k));
     fresh_before = λ x in_t. inl (back x in_t);
     cause = sym (due_is ∙ cond-false _ _ _ young);
-    licence = record {
-      reasons = subst (AllByRecursion (IsReason h t entry)) (sym sends_are) (
-        record {
-          from = leg d;
-          back = reversed d;
-          tag = Some c;
-          pdu = data_pdu b.n (sn b.n c) (ciphered h b.id d c p);
-          is_given = given_is lines;
-        },
-        tt,
-      );
-      ascends = subst (λ (ss : List (LinkId × Flight)). AscendsFrom 0 (flat_map count_in ss)) (sym sends_are) tt;
-      one = subst (λ (ss : List (LinkId × Flight)). count_by is_uncounted ss ≤ 1) (sym sends_are) (omega arith);
-    };
+    licence = confirm_licence h t entry d b.id b.g num sends_are (Some c) (data_pdu b.n (sn b.n c) (ciphered h b.id d c p)) (given_is lines);
   }
     where
-      reversed : (k : Dir) → leg (other k) ≡ reverse (leg k)
-      reversed Ul = refl
-      reversed Dl = refl
-
       -- its confirm is one of the bearer
       the_ack : IsAckOf t' s' d (flight.Ack b.id b.g num)
       the_ack = record {
@@ -398,11 +382,6 @@ module _ (h : Header) (policies : ℕ) (t : List Entry) (w : WorldState) (sound 
         got = (sub.counted, got_c);
         is = refl;
       }
-
-      -- so its promise holds
-      promise : (k : Dir) → k ≡ d → PromiseOf h t' s' (leg (other k), flight.Ack b.id b.g num)
-      promise Ul is_d = an_ack (subst (λ k. IsAckOf t' s' k (flight.Ack b.id b.g num)) (sym is_d) the_ack)
-      promise Dl is_d = an_ack (subst (λ k. IsAckOf t' s' k (flight.Ack b.id b.g num)) (sym is_d) the_ack)
 
   -- what the receiver's rule makes of it
   taken_is : IsPayload p → nat_lt (c + window b.n) r.rx.deliv ≡ false → air_taken h d (receiver_table d w.nodes) f ≡ (with_bearer (receiver_table d w.nodes) b.id (Some r'), lines)

@@ -1,5 +1,5 @@
 -- A bearer recovers: at the master with the command, then at the terminal, and the master is told.
-use Rattle.std.proofs.Common.{ℕ, ◌≡◌, ◌++◌, List, [], ◌∷◌, Option, Some, None, true, false, slice_get, refl, sym, ap, ◌∙◌, subst, append-nil, inl, inr}
+use Rattle.std.proofs.Common.{ℕ, ◌≡◌, ◌++◌, List, [], ◌∷◌, Option, Some, None, true, false, slice_get, refl, sym, ap, ◌∙◌, subst, inl, inr}
 use Rattle.std.specs.Prelude.{Contains, is_some, if◌then◌else◌}
 use Rattle.std.specs.List.{remove}
 use Rattle.std.proofs.lemmas.Bool.{cases_Bool, cond-true, eq-eqb}
@@ -15,19 +15,22 @@ use Rattle.dc_base.specs.declared.events.Line.TheVariants as line
 use Rattle.dc_base.specs.declared.events.Note.TheVariants as note
 use Rattle.transcript.specs.Transcript.{Entry}
 use Rattle.transcript.specs.Content.{mt_ctl, tm_ctl, given, put_on, without_taken}
-use Rattle.transcript.specs.Bearers.{OpenCommand, Established, established, recovery, latest, is_set, key_in, open_command, unless_opening, at_master, confirms, confirmed_by}
+use Rattle.transcript.specs.Bearers.{OpenCommand, Established, established, recovery, latest, is_set, open_command, unless_opening, at_master, confirms}
 use Rattle.dc_world.specs.Entities.{Entities, bearer_in}
 use Rattle.dc_world.specs.Plane.{leg}
 use Rattle.dc_world.specs.Control.{Nodes, is_change, is_recovery, unless_open, recovers_there, told_terminal, told_master}
 use Rattle.dc_world.specs.Control.{recovered as recovered_by}
 use Rattle.dc_world.specs.Links.{Links, on, moved}
 use Rattle.dc_world.specs.Run.{WorldState}
-use Rattle.transcript.proofs.Establishing.{IsOnce, open_command-next, is_set-next}
+use Rattle.transcript.proofs.Establishing.{open_command-next, is_set-next}
 use Rattle.dc_world.proofs.Contents.{on_moved, step_given, step_due}
-use Rattle.dc_world.proofs.Plain.{IsUndrawn, plans_same, established_same, generation_same, there_then, there_before}
-use Rattle.dc_world.proofs.Silent.{no_ups, no_frees, IsSilent, silent_happened}
-use Rattle.dc_world.proofs.Resending.{entry, here, named, resent_apart, all_there, resending_happened}
+use Rattle.dc_world.proofs.Plain.{IsUndrawn, there_then, there_before, tabled_busy}
+use Rattle.dc_world.proofs.Silent.{no_ups, no_frees, IsSilent, silent_happened, record_confirms}
+use Rattle.dc_world.proofs.Resending.{entry, here, named, all_there, resending_happened}
+use Rattle.dc_world.proofs.Resent.{resent_apart}
 use Rattle.dc_world.proofs.Sound.{half, sender_table, IsUnderWay, AllConfigured, Phase, idle, commanded, answered, recovering, recovered, IsTabled, Happened, Sound}
+use Rattle.dc_world.proofs.Leaving.{legs_same}
+use Rattle.dc_world.proofs.Tables.{keeps_all}
 
 -- a bearer that is not held back is in the table
 opened : (o : Option OpenCommand) (x : Option Entities) (e : Entities) → unless_open o x ≡ Some e → x ≡ Some e
@@ -107,7 +110,7 @@ module _ (h : Header) (policies : ℕ) (t : List Entry) (w : WorldState) (sound 
             on_moved w.links (Some (mt_ctl, 0)) x.lines tm_ctl sound.long ∙ ap (λ fs. fs ++ put_on tm_ctl x.lines) up
             ∙ ap (λ fs. flight.Ctl (Recovd b.id) ∷ fs) (resent_apart h e.bearer Ul tm_ctl refl _ e.tx.kept) in
             resending_happened h policies t w sound Ul b.id e at (Step mt_ctl 0) tm_ctl (Recovd b.id) w.nodes.busy undrawn (λ c k. refl)
-            (λ c k. elim k as (λ k. confirms c k t x ≡ []) [ Ul ↦ ap (confirmed_by c Ul t) is_given | Dl ↦ ap (confirmed_by c Dl t) is_given ])
+            (record_confirms t x mt_ctl (Recov b.id) is_given)
             (λ k fs. elim k as (λ k. without_taken (leg k) (Some (mt_ctl, 0)) fs ≡ fs) [ Ul ↦ refl | Dl ↦ refl ])
             (sym sound.tables.busy_is)
             (recovered b (there_then t x undrawn b there) busy down' up' (all_there h policies t w sound Ul b.id e at (Step mt_ctl 0) tm_ctl (Recovd b.id) w.nodes.busy undrawn all))
@@ -136,23 +139,7 @@ module _ (h : Header) (policies : ℕ) (t : List Entry) (w : WorldState) (sound 
 
     -- the nodes follow the transcript
     done_tables : IsTabled (t ++ done_entry ∷ []) done_nodes
-    done_tables =
-        let tables = sound.tables in
-        let stand : established (t ++ done_entry ∷ []) ≡ established t = established_same t done_entry done_undrawn in
-        let set : (id : ℕ) → is_set id (t ++ done_entry ∷ []) ≡ is_set id t = λ id. is_set-next id t done_entry in
-        record {
-          master_long = tables.master_long;
-          terminal_long = tables.terminal_long;
-          master_is = λ id. tables.master_is id ∙ ap (latest id) (sym stand);
-          terminal_is = λ id. tables.terminal_is id
-              ∙ sym (ap (λ x. if x then latest id (established (t ++ done_entry ∷ [])) else None) (set id) ∙ ap (λ bs. if is_set id t then latest id bs else None) stand);
-          set_is = λ id. set id ∙ tables.set_is id;
-          drawn_is = tables.drawn_is ∙ sym (generation_same t done_entry done_undrawn);
-          busy_is = sym (open_command-next t done_entry);
-          once = subst IsOnce (sym stand) tables.once;
-          ranged = λ c is. tables.ranged c (there_before t done_entry done_undrawn c is);
-          keyed = λ c is. ap (key_in c.g c.id) (plans_same t done_entry done_undrawn) ∙ tables.keyed c (there_before t done_entry done_undrawn c is);
-        }
+    done_tables = tabled_busy t done_entry done_undrawn (λ id. is_set-next id t done_entry) w.nodes w.nodes (keeps_all w.nodes) None (open_command-next t done_entry) sound.tables
 
     -- it gives the record, and carries no data
     done_silent : given t done_entry ≡ Some (tm_ctl, flight.Ctl (Recovd b.id)) → IsSilent t done_entry
@@ -160,7 +147,7 @@ module _ (h : Header) (policies : ℕ) (t : List Entry) (w : WorldState) (sound 
       submits = λ c d. refl;
       hands = λ c d. no_ups c d t done_entry refl;
       moves = λ c d. no_frees c d t done_entry refl;
-      confirms = λ c d. elim d as (λ d. confirms c d t done_entry ≡ []) [ Ul ↦ ap (confirmed_by c Ul t) is_given | Dl ↦ ap (confirmed_by c Dl t) is_given ];
+      confirms = record_confirms t done_entry tm_ctl (Recovd b.id) is_given;
       tags = λ l id g num. refl;
     }
 
@@ -178,9 +165,7 @@ module _ (h : Header) (policies : ℕ) (t : List Entry) (w : WorldState) (sound 
         let stands : slice_get (on w.links tm_ctl) 0 ≡ Some (flight.Ctl (Recovd b.id)) = ap (λ fs. slice_get fs 0) up in
         let is_given : given t done_entry ≡ Some (tm_ctl, flight.Ctl (Recovd b.id)) = step_given t w.links sound.contents tm_ctl 0 (flight.Ctl (Recovd b.id)) stands done_entry.lines in
         let links'' : Links = moved w.links (Some (tm_ctl, 0)) done_entry.lines in
-        let air : (d : Dir) → on links'' (leg d) ≡ on w.links (leg d) = λ d.
-        on_moved w.links (Some (tm_ctl, 0)) done_entry.lines (leg d) sound.long
-        ∙ elim d as (λ d. without_taken (leg d) (Some (tm_ctl, 0)) (on w.links (leg d)) ++ [] ≡ on w.links (leg d)) [ Ul ↦ append-nil _ | Dl ↦ append-nil _ ] in
+        let air : (d : Dir) → on links'' (leg d) ≡ on w.links (leg d) = legs_same w.links (Some (tm_ctl, 0)) done_entry.lines sound.long refl refl refl refl in
         let phase : Phase h (t ++ done_entry ∷ []) done_nodes links'' = idle refl
         (on_moved w.links (Some (tm_ctl, 0)) done_entry.lines mt_ctl sound.long ∙ ap (λ fs. fs ++ []) down)
         (on_moved w.links (Some (tm_ctl, 0)) done_entry.lines tm_ctl sound.long ∙ ap (λ fs. remove fs 0 ++ []) up)

@@ -1,10 +1,10 @@
 -- A status report is asked for and sent, or comes.
-use Rattle.std.proofs.Common.{ℕ, ◌≡◌, ◌<◌, ◌≤◌, ◌==◌, ◌++◌, List, [], ◌∷◌, Option, Some, None, true, false, Bool, Ok, slice_get, refl, sym, ap, ◌∙◌, subst, arith, inl, inr}
-use Rattle.std.specs.Prelude.{Contains, nat_lt, count_by, ◌&&◌, if◌then◌else◌, fold}
-use Rattle.std.specs.List.{AllByRecursion, flat_map}
+use Rattle.std.proofs.Common.{ℕ, ◌≡◌, ◌<◌, ◌≤◌, ◌++◌, List, [], ◌∷◌, Option, Some, None, true, false, Ok, slice_get, refl, sym, ap, ◌∙◌, subst, inl, inr}
+use Rattle.std.specs.Prelude.{Contains, nat_lt, if◌then◌else◌}
+use Rattle.std.specs.List.{flat_map}
 use Rattle.std.proofs.lemmas.List.{append-nil}
 use Rattle.std.proofs.lemmas.Option.{none-some}
-use Rattle.std.proofs.lemmas.Bool.{cases_Bool, eq-eqb, cond-true, and_from}
+use Rattle.std.proofs.lemmas.Bool.{cases_Bool, eq-eqb, cond-true}
 use Rattle.dc_base.specs.declared.nodes.Dir.{Dir}
 use Rattle.dc_base.specs.declared.nodes.Dir.TheVariants.{Ul, Dl}
 use Rattle.dc_base.specs.declared.nodes.LinkId.{LinkId}
@@ -20,9 +20,9 @@ use Rattle.pdcp_tx.specs.Sender.{Sender, low}
 use Rattle.pdcp_tx.specs.Sending.{reported as without_named}
 use Rattle.pdcp_rx.specs.Receiver.{Received}
 use Rattle.transcript.specs.Transcript.{Entry, sends}
-use Rattle.transcript.specs.Content.{mt_ctl, tm_ctl, is_to, given, on_link, reverse}
-use Rattle.transcript.specs.Bearers.{Established, OpenCommand, reported, established, is_generation_of, is_same_dir, ends_command, has_after, submitted, ups, up_of, freed_of, frees, read_of, confirmed_by, confirms, confirmed, tag_of, tags_sent, at_submitter, submitter}
-use Rattle.transcript.specs.Claims.{IsDataFlight, IsProtected, IsReason, AscendsFrom, count_in, is_uncounted, step_answer, HasCause}
+use Rattle.transcript.specs.Content.{mt_ctl, tm_ctl, is_to, given, on_link}
+use Rattle.transcript.specs.Bearers.{Established, reported, established, submitted, ups, freed_of, frees, read_of, confirmed_by, confirms, confirmed, tag_of, tags_sent, at_submitter, submitter}
+use Rattle.transcript.specs.Claims.{step_answer, HasCause}
 use Rattle.transcript.proofs.Establishing.{is_latest_once, is_generation_once}
 use Rattle.dc_world.specs.Entities.{Entities, Table, bearer_in, with_bearer}
 use Rattle.dc_world.specs.Plane.{leg, other, air_taken, taken_for, flight_taken, pdu_taken, freed_lines, ack_line, reports}
@@ -31,76 +31,20 @@ use Rattle.dc_world.specs.Links.{Links, on, moved}
 use Rattle.dc_world.specs.Run.{WorldState}
 use Rattle.dc_world.proofs.Asking.{asked_happened}
 use Rattle.dc_world.proofs.Lane.{IsLane, lane_confirmed}
-use Rattle.dc_world.proofs.Tables.{with_sender, with_receiver, Keeps, half_at, receiver_put, receiver_put_same, sender_put_here, sender_put_apart, sender_put_rx, keeps_receiver}
-use Rattle.dc_world.proofs.Directions.{each_bearer, Apart, same_dir, not_named}
+use Rattle.dc_world.proofs.Tables.{with_sender, with_receiver, Keeps, receiver_put, receiver_put_same, keeps_receiver, half_back, put_back_here, put_back_apart, put_back_rx}
+use Rattle.dc_world.proofs.Directions.{each_bearer, Apart}
 use Rattle.dc_world.proofs.Plain.{IsPlain, there_then, there_before, tabled_same, phase_same}
-use Rattle.dc_world.proofs.Served.{lane_same, served_next, served_still}
+use Rattle.dc_world.proofs.Served.{lane_same, served_next, served_still, lane_of}
 use Rattle.dc_world.proofs.Silent.{no_ups, no_move, none_carried, none_sent_still, grows_same}
 use Rattle.dc_world.proofs.Contents.{step_given, step_due}
 use Rattle.dc_world.proofs.Leaving.{no_command, no_completion, flying_after, control_down, control_up}
 use Rattle.dc_world.proofs.Having.{receiver_has}
-use Rattle.dc_world.proofs.Sound.{or_fresh, half, sender_table, receiver_table, IsUnderWay, IsNumberOf, IsReportOf, IsAckOf, PromiseOf, an_ack, listed, IsServed, Happened, Sound}
+use Rattle.dc_world.proofs.Sound.{or_fresh, half, sender_table, receiver_table, IsUnderWay, IsNumberOf, IsReportOf, IsAckOf, listed, IsServed, Happened, Sound}
+use Rattle.dc_world.proofs.Freeing.{freed_sends, freed_ups, freed_ends, freed_sets, freed_apart, freed_here, rising}
+use Rattle.dc_world.proofs.Taking.{pdu_confirms}
+use Rattle.dc_world.proofs.Confirming.{confirm_sent, confirm_protects, confirm_licence}
 
--- ---- a freed line before others
-
--- such a line sends nothing
-freed_then_sends : (id : ℕ) (d : Dir) (x y : ℕ) (rest : List Line) → sends (freed_lines id d x y ++ rest) ≡ sends rest
-freed_then_sends id d x y rest = elim (cases_Bool (nat_lt x y)) [ inl less ↦ rw less refl | inr most ↦ rw most refl ]
-
--- it hands nothing up
-freed_then_ups : (b : Established) (k : Dir) (id : ℕ) (d : Dir) (x y : ℕ) (rest : List Line) → flat_map (up_of b k) (freed_lines id d x y ++ rest) ≡ flat_map (up_of b k) rest
-freed_then_ups b k id d x y rest = elim (cases_Bool (nat_lt x y)) [ inl less ↦ rw less refl | inr most ↦ rw most refl ]
-
--- it ends no command
-freed_then_ends : (o : Option OpenCommand) (id : ℕ) (d : Dir) (x y : ℕ) (rest : List Line) → fold ends_command o (freed_lines id d x y ++ rest) ≡ fold ends_command o rest
-freed_then_ends o id d x y rest = elim (cases_Bool (nat_lt x y)) [ inl less ↦ rw less refl | inr most ↦ rw most refl ]
-
--- it sets no bearer up
-freed_then_sets : (k : ℕ) (has : Bool) (id : ℕ) (d : Dir) (x y : ℕ) (rest : List Line) → fold (has_after k) has (freed_lines id d x y ++ rest) ≡ fold (has_after k) has rest
-freed_then_sets k has id d x y rest = elim (cases_Bool (nat_lt x y)) [ inl less ↦ rw less refl | inr most ↦ rw most refl ]
-
--- of another bearer or direction it says nothing
-freed_then_apart : (b : Established) (k : Dir) (id : ℕ) (d : Dir) (x y : ℕ) (rest : List Line) → Apart d id k b.id → flat_map (freed_of b k) (freed_lines id d x y ++ rest) ≡ flat_map (freed_of b k) rest
-freed_then_apart b k id d x y rest apart = elim (cases_Bool (nat_lt x y)) [ inl less ↦ rw (less, not_named d id k b.id apart) refl | inr most ↦ rw most refl ]
-
--- of its own it says where Low is, where Low rises
-freed_then_here : (b : Established) (d : Dir) (x y : ℕ) (rest : List Line) → flat_map (freed_of b d) (freed_lines b.id d x y ++ rest) ≡ (if nat_lt x y then y ∷ [] else []) ++ flat_map (freed_of b d) rest
-freed_then_here b d x y rest =
-    let mine : ((b.id == b.id) && is_same_dir d d) ≡ true = and_from (b.id == b.id) (is_same_dir d d) (eq-eqb b.id b.id refl) (same_dir d) in
-    elim (cases_Bool (nat_lt x y)) [ inl less ↦ rw (less, mine) refl | inr most ↦ rw most refl ]
-
--- where Low is, if that is further than before
-abbrev rising : Entities → Entities → List ℕ
-rising x y = if nat_lt (low x.tx) (low y.tx) then low y.tx ∷ [] else []
-
--- ---- the two ends of a leg
-
--- the receiver's table is that from which it sends the other way
-half_back : (d : Dir) (s : Nodes) (b : Established) (r : Entities) → bearer_in (receiver_table d s) b.id ≡ Some r → half b (sender_table (other d) s) ≡ r
-half_back Dl s b r has = half_at b s.terminal b.id r has refl
-half_back Ul s b r has = half_at b s.master b.id r has refl
-
--- what it sends with is there then
-put_back_here : (d : Dir) (s : Nodes) (b : Established) (r r' : Entities) → bearer_in (receiver_table d s) b.id ≡ Some r → half b (sender_table (other d) (receiver_put d s b.id r')) ≡ r'
-put_back_here Dl s b r r' has = sender_put_here Ul s b b.id r r' has refl
-put_back_here Ul s b r r' has = sender_put_here Dl s b b.id r r' has refl
-
--- any other is as before
-put_back_apart : (d : Dir) (s : Nodes) (id : ℕ) (r : Entities) (x : Established) (k : Dir) → Apart (other d) id k x.id → half x (sender_table k (receiver_put d s id r)) ≡ half x (sender_table k s)
-put_back_apart Dl s id r x k apart = sender_put_apart Ul s id r x k apart
-put_back_apart Ul s id r x k apart = sender_put_apart Dl s id r x k apart
-
--- and so is each receiving side
-put_back_rx : (d : Dir) (s : Nodes) (id : ℕ) (r r' : Entities) → bearer_in (receiver_table d s) id ≡ Some r → r'.rx ≡ r.rx
-    → (x : Established) (k : Dir) → (half x (receiver_table k (receiver_put d s id r'))).rx ≡ (half x (receiver_table k s)).rx
-put_back_rx Dl s id r r' has same x k = sender_put_rx Ul s id r r' has same x k
-put_back_rx Ul s id r r' has same x k = sender_put_rx Dl s id r r' has same x k
-
--- what a PDU on a link confirms
-pdu_confirms : (x : Established) (k : Dir) (t : List Entry) (l : LinkId) (id g num : ℕ) (tag : Option ℕ) (pdu : List ℕ)
-    → confirmed_by x k t (Some (l, flight.Air id g num tag pdu)) ≡ (if is_to (submitter k) l && (id == x.id) && is_generation_of x g t then read_of (decoded x.n pdu) else [])
-pdu_confirms x Dl t l id g num tag pdu = refl
-pdu_confirms x Ul t l id g num tag pdu = refl
+-- ---- what comes on a leg
 
 -- what comes on a leg comes to the submitter of the other direction
 comes_back : (d : Dir) → is_to (submitter (other d)) (leg d) ≡ true
@@ -116,16 +60,6 @@ not_own Ul = refl
 report_due : (d : Dir) (t : List Entry) (i id g num : ℕ) (pdu : List ℕ) → step_answer t (leg d) i (Some (flight.Air id g num None pdu)) ≡ answer.Ok
 report_due Dl t i id g num pdu = refl
 report_due Ul t i id g num pdu = refl
-
--- a confirm of what came on a leg is promised on the other
-ack_promised : (h : Header) (t : List Entry) (s : Nodes) (d : Dir) (f : Flight) → IsAckOf t s d f → PromiseOf h t s (leg (other d), f)
-ack_promised h t s Dl f ack = an_ack ack
-ack_promised h t s Ul f ack = an_ack ack
-
--- the other leg is the same link turned round
-leg_back : (d : Dir) → leg (other d) ≡ reverse (leg d)
-leg_back Dl = refl
-leg_back Ul = refl
 
 module _ (h : Header) (policies : ℕ) (t : List Entry) (w : WorldState) (sound : Sound h policies t w) where
   -- ---- one report
@@ -175,8 +109,8 @@ module _ (h : Header) (policies : ℕ) (t : List Entry) (w : WorldState) (sound 
     plain = record {
       undrawn = record { no_plan = λ g. refl; no_draw = refl };
       no_open = λ g o. refl;
-      no_end = λ o. freed_then_ends o b.id (other d) (low r.tx) (low tx') ack;
-      no_set = λ k has'. freed_then_sets k has' b.id (other d) (low r.tx) (low tx') ack;
+      no_end = λ o. freed_ends o b.id (other d) (low r.tx) (low tx') ack;
+      no_set = λ k has'. freed_sets k has' b.id (other d) (low r.tx) (low tx') ack;
     }
 
     -- each place keeps its bearer
@@ -195,7 +129,7 @@ module _ (h : Header) (policies : ℕ) (t : List Entry) (w : WorldState) (sound 
 
     -- it sends the confirm alone
     sends_are : sends lines ≡ (leg (other d), flight.Ack b.id b.g num) ∷ []
-    sends_are = freed_then_sends b.id (other d) (low r.tx) (low tx') ack
+    sends_are = freed_sends b.id (other d) (low r.tx) (low tx') ack
 
     -- no PDU with a COUNT is sent
     no_tags : (l : LinkId) (id g k : ℕ) → flat_map (tag_of l id g k) (sends lines) ≡ []
@@ -203,7 +137,7 @@ module _ (h : Header) (policies : ℕ) (t : List Entry) (w : WorldState) (sound 
 
     -- nothing goes up
     nothing_up : (x : Established) (k : Dir) → ups x k t entry ≡ []
-    nothing_up x k = no_ups x k t entry (freed_then_ups x k b.id (other d) (low r.tx) (low tx') ack)
+    nothing_up x k = no_ups x k t entry (freed_ups x k b.id (other d) (low r.tx) (low tx') ack)
 
     -- the report is given
     given_is : given t entry ≡ Some (leg d, f)
@@ -246,7 +180,7 @@ module _ (h : Header) (policies : ℕ) (t : List Entry) (w : WorldState) (sound 
 
     -- so was what the node held
     lane : IsLane b.n b.first (submitted b (other d) t) (confirmed b (other d) t) r.tx r.sent (half b (receiver_table (other d) w.nodes)).rx
-    lane = subst (λ (x : Entities). IsLane b.n b.first (submitted b (other d) t) (confirmed b (other d) t) x.tx x.sent (half b (receiver_table (other d) w.nodes)).rx) half_before was.lane
+    lane = lane_of t w.nodes w.links b (other d) r was half_before
 
     -- the bearer is served
     served_here : IsServed (t ++ entry ∷ []) after links' b (other d)
@@ -278,8 +212,8 @@ module _ (h : Header) (policies : ℕ) (t : List Entry) (w : WorldState) (sound 
     freed_all x k there =
         cond-true _ _ _ (is_latest_once t x sound.tables.once there)
         ∙ each_bearer (established t) sound.tables.once b here (other d) b.id refl (λ x k. flat_map (freed_of x k) lines ≡ rising (half x (sender_table k w.nodes)) (half x (sender_table k after)))
-        (freed_then_here b (other d) (low r.tx) (low tx') ack ∙ append-nil _ ∙ ap (λ y. rising y r') (sym half_before) ∙ ap (rising (half b (sender_table (other d) w.nodes))) (sym half_after))
-        (λ x k there apart. freed_then_apart x k b.id (other d) (low r.tx) (low tx') ack apart ∙ no_move _ _ (ap (λ (y : Entities). low y.tx) (put_back_apart d w.nodes b.id r' x k apart))) x k there
+        (freed_here b (other d) (low r.tx) (low tx') ack ∙ append-nil _ ∙ ap (λ y. rising y r') (sym half_before) ∙ ap (rising (half b (sender_table (other d) w.nodes))) (sym half_after))
+        (λ x k there apart. freed_apart x k b.id (other d) (low r.tx) (low tx') ack apart ∙ no_move _ _ (ap (λ (y : Entities). low y.tx) (put_back_apart d w.nodes b.id r' x k apart))) x k there
 
     -- ---- the confirm
 
@@ -315,18 +249,14 @@ module _ (h : Header) (policies : ℕ) (t : List Entry) (w : WorldState) (sound 
               (λ x there busy absent k. refl) (λ x there busy. sent_still x Dl) sound.phase;
           served = λ x k there. served_all x k (before x there);
           grows = grows_same t entry w.nodes after (there_then t entry plain.undrawn) (λ x k there. rx_still x k) (λ x k there. numbers_stay x k);
-          sent = subst (AllByRecursion (PromiseOf h (t ++ entry ∷ []) after)) (sym sends_are) (ack_promised h (t ++ entry ∷ []) after d (flight.Ack b.id b.g num) the_ack, tt);
+          sent = confirm_sent h t entry d b.id b.g num sends_are after the_ack;
           none_sent = none_sent_still t entry no_tags sound.none_sent;
-          protects = λ x k there. subst (AllByRecursion (λ s. IsDataFlight (t ++ entry ∷ []) x k s → IsProtected h (t ++ entry ∷ []) x k s)) (sym sends_are) ((λ data'. absurd data'), tt);
+          protects = λ x k there. confirm_protects h t entry d b.id b.g num sends_are x k;
           carried = λ x k there. none_carried x k t entry (nothing_up x k);
           freed = λ x k there. freed_all x k (before x there);
           fresh_before = λ x there. inl (before x there);
           cause = cause_is;
-          licence = record {
-            reasons = subst (AllByRecursion (IsReason h t entry)) (sym sends_are) (record { from = leg d; back = leg_back d; tag = None; pdu = pdu; is_given = given_is }, tt);
-            ascends = subst (λ (ss : List (LinkId × Flight)). AscendsFrom 0 (flat_map count_in ss)) (sym sends_are) tt;
-            one = subst (λ (ss : List (LinkId × Flight)). count_by is_uncounted ss ≤ 1) (sym sends_are) (omega arith);
-          };
+          licence = confirm_licence h t entry d b.id b.g num sends_are None pdu given_is;
         }
 
     -- what the node's rule makes of it

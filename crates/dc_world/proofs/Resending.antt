@@ -1,11 +1,8 @@
 -- A node sends again all that it keeps of a bearer: what a recovery owes at either node.
-use Rattle.std.proofs.Common.{ℕ, zero, suc, ◌≡◌, ◌+◌, ◌-◌, ◌<◌, ◌≤◌, ◌⊎◌, ◌==◌, ◌++◌, List, [], ◌∷◌, Option, Some, None, Bool, true, false, length, map, slice_get, refl, sym, ap, ◌∙◌, subst, arith, inl, inr, append_assoc}
-use Rattle.std.specs.Prelude.{Contains, if◌then◌else◌, fold, is_some, count_by}
+use Rattle.std.proofs.Common.{ℕ, ◌≡◌, ◌+◌, ◌-◌, ◌<◌, ◌==◌, ◌++◌, List, [], ◌∷◌, Option, Some, false, length, slice_get, refl, sym, ap, ◌∙◌, subst, arith, inl, inr}
+use Rattle.std.specs.Prelude.{Contains, count_by}
 use Rattle.std.specs.List.{AllByRecursion, flat_map}
 use Rattle.std.specs.Option.{option_map}
-use Rattle.std.proofs.lemmas.List.{append-nil, length_push}
-use Rattle.std.proofs.lemmas.Bool.{cases_Bool, eq-eqb, ne_eqb}
-use Rattle.std.proofs.lemmas.Bool.Decides.{nat_tests}
 use Rattle.dc_base.specs.Count.{sn}
 use Rattle.dc_base.specs.declared.nodes.Dir.{Dir}
 use Rattle.dc_base.specs.declared.nodes.Dir.TheVariants.{Ul, Dl}
@@ -18,165 +15,30 @@ use Rattle.dc_base.specs.declared.events.Header.{Header}
 use Rattle.dc_base.specs.declared.events.Event.{Event}
 use Rattle.dc_base.specs.declared.events.Line.TheVariants as line
 use Rattle.pdcp_pdu.specs.DataPdu.{IsPayload, data_pdu}
-use Rattle.pdcp_tx.specs.Sender.{low, Rises}
+use Rattle.pdcp_tx.specs.Sender.{low}
 use Rattle.transcript.specs.Transcript.{Entry, sends}
 use Rattle.transcript.specs.Content.{is_same_link, put_on, place_taken, without_taken}
-use Rattle.transcript.specs.Bearers.{OpenCommand, Established, established, latest, generation, submission, submitted, confirms, confirmed, is_confirmed, up_of, freed_of, tag_of, opens, ends_command, open_command, has_after, is_set, key_in, master_key}
-use Rattle.transcript.specs.Claims.{Protects, ProtectsSubmission, IsDataFlight, IsProtected, IsReason, IsLicensed, HasCause, MakesRecover, SentAgain, AscendsFrom, count_in, is_uncounted}
+use Rattle.transcript.specs.Bearers.{OpenCommand, Established, established, generation, submission, submitted, confirms, confirmed, is_confirmed, up_of, freed_of, tag_of, opens, open_command, is_set, key_in, master_key}
+use Rattle.transcript.specs.Claims.{Protects, ProtectsSubmission, IsDataFlight, IsProtected, IsReason, IsLicensed, HasCause, MakesRecover, SentAgain, is_uncounted}
 use Rattle.dc_world.specs.Entities.{Entities, bearer_in}
-use Rattle.dc_world.specs.Plane.{leg, other, ciphered, data_flight, resends}
+use Rattle.dc_world.specs.Plane.{leg, ciphered, data_flight, resends}
 use Rattle.dc_world.specs.Control.{Nodes}
 use Rattle.dc_world.specs.Links.{Links, on, moved}
 use Rattle.dc_world.specs.Run.{WorldState}
 use Rattle.transcript.proofs.OnEach.{each_at}
-use Rattle.transcript.proofs.Establishing.{IsOnce, submitted-next, tags_sent-next, open_command-next, is_set-next, same_bearer, is_generation_once, established_drawn}
-use Rattle.dc_world.proofs.Lists.{slice_get_left}
-use Rattle.dc_world.proofs.Lane.{IsNumbered, IsGiven, IsLane, lane_sent, kept_unconfirmed}
+use Rattle.transcript.proofs.Establishing.{submitted-next, open_command-next, is_set-next, is_generation_once}
+use Rattle.dc_world.proofs.Lists.{slice_get_left, slice_get_right}
+use Rattle.dc_world.proofs.Lane.{IsNumbered, IsLane, lane_sent, kept_unconfirmed}
 use Rattle.dc_world.proofs.Taking.{is_data_flight}
 use Rattle.dc_world.proofs.Tables.{is_established, Keeps, half_at, sender_put, sender_put_here, sender_put_apart, sender_put_rx, keeps_sender}
 use Rattle.dc_world.proofs.Contents.{on_moved}
-use Rattle.dc_world.proofs.Directions.{each_bearer, Apart, direction_leg}
-use Rattle.dc_world.proofs.Plain.{IsUndrawn, plans_same, established_same, generation_same, there_then, there_before, is_some_map, none_mapped}
-use Rattle.dc_world.proofs.Served.{lane_same, under_way_left, served_next, served_still}
-use Rattle.dc_world.proofs.Silent.{no_ups, no_frees, no_move, none_carried, grows_same}
-use Rattle.dc_world.proofs.Sound.{half, sender_table, receiver_table, IsNumberOf, IsPduOf, a_pdu, IsUnderWay, AllConfigured, PromiseOf, Phase, listed, IsServed, IsTabled, NoneSent, Happened, Sound}
-
--- the PDUs of a leg for these payloads
-abbrev pub counts_sent : List (ℕ × List ℕ) → List (Option ℕ)
-counts_sent xs = map (λ x. Some x.0) xs
-
--- ---- places
-
--- nothing is added
-none_more : {A : Type 0} (xs ys : List A) → ys ≡ [] → xs ++ ys ≡ xs
-none_more xs ys none = ap (λ zs. xs ++ zs) none ∙ append-nil xs
-
--- one more PDU was sent
-listed_push : (xs : List (Option ℕ)) (c num : ℕ) → listed (slice_get xs num) ++ (if length xs == num then c ∷ [] else []) ≡ listed (slice_get (xs ++ Some c ∷ []) num)
-listed_push [] c zero = refl
-listed_push [] c (suc num) = grind (arith, nat_tests)
-listed_push (None ∷ xs) c zero = grind (arith, nat_tests)
-listed_push (Some x ∷ xs) c zero = grind (arith, nat_tests)
-listed_push (x ∷ xs) c (suc num) = grind (arith, nat_tests, listed_push xs c num)
-
--- a place of the second list, after the first
-slice_get_right : {X : Type 0} (xs ys : List X) (k : ℕ) (y : X) → slice_get ys k ≡ Some y → slice_get (xs ++ ys) (length xs + k) ≡ Some y
-slice_get_right [] ys k y at = subst (λ i. slice_get ys i ≡ Some y) (omega arith) at
-slice_get_right (x ∷ xs) ys k y at =
-    let next : suc (length xs + k) ≡ suc (length xs) + k = omega arith in
-    subst (λ i. slice_get (x ∷ (xs ++ ys)) i ≡ Some y) next (slice_get_right xs ys k y at)
-
--- the COUNT of a payload stands at its place
-counts_at : (xs : List (ℕ × List ℕ)) (k : ℕ) (x : ℕ × List ℕ) → slice_get xs k ≡ Some x → slice_get (counts_sent xs) k ≡ Some (Some x.0)
-counts_at [] k x at = absurd cc
-counts_at (y ∷ xs) zero x at = let same : y ≡ x = cc in ap (λ (z : ℕ × List ℕ). Some (Some z.0)) same
-counts_at (y ∷ xs) (suc k) x at = counts_at xs k x at
-
--- COUNTs that were given are given again
-given_again : (first next : ℕ) (P : ℕ × List ℕ → Type 0) → ((x : ℕ × List ℕ) → P x → (first ≤ x.0) × (x.0 < next)) → (xs : List (ℕ × List ℕ)) → AllByRecursion P xs
-    → AllByRecursion (IsGiven first next) (counts_sent xs)
-given_again first next P is [] all = tt
-given_again first next P is (x ∷ xs) all = (is x all.0, given_again first next P is xs all.1)
-
--- ---- links and directions
-
--- a leg is the same as itself
-same_leg : (d : Dir) → is_same_link (leg d) (leg d) ≡ true
-same_leg Dl = refl
-same_leg Ul = refl
-
--- the legs of the two directions are two
-other_leg : (d : Dir) → is_same_link (leg (other d)) (leg d) ≡ false
-other_leg Dl = refl
-other_leg Ul = refl
-
--- a PDU of the direction of its leg is promised
-promised : (h : Header) (t : List Entry) (s : Nodes) (d : Dir) (f : Flight) → IsPduOf h t s d f → PromiseOf h t s (leg d, f)
-promised h t s Dl f pdu = a_pdu pdu
-promised h t s Ul f pdu = a_pdu pdu
-
--- ---- the lines
-
-module _ (h : Header) (b : Established) (d : Dir) where
-  -- what is so of each PDU sent again is so of all these sends
-  each_resent : (P : LinkId × Flight → Type 0) (num : ℕ) (xs : List (ℕ × List ℕ)) → ((k : ℕ) (x : ℕ × List ℕ) → slice_get xs k ≡ Some x → P (leg d, data_flight h b d (num + k) x.0 x.1))
-      → AllByRecursion P (sends (resends h b d num xs))
-  each_resent P num [] each = tt
-  each_resent P num (x ∷ xs) each =
-      let first : num + 0 ≡ num = omega arith in (
-        subst (λ m. P (leg d, data_flight h b d m x.0 x.1)) first (each 0 x refl),
-        each_resent P (num + 1) xs (λ k y at.
-            let next : num + suc k ≡ num + 1 + k = omega arith in
-            subst (λ m. P (leg d, data_flight h b d m y.0 y.1)) next (each (suc k) y at)),
-      )
-
-  -- they stand on no other link
-  pub resent_apart : (l : LinkId) → is_same_link l (leg d) ≡ false → (num : ℕ) (xs : List (ℕ × List ℕ)) → put_on l (resends h b d num xs) ≡ []
-  resent_apart l apart num [] = refl
-  resent_apart l apart num (x ∷ xs) =
-      ap (λ c. (if c then data_flight h b d num x.0 x.1 ∷ [] else []) ++ put_on l (resends h b d (num + 1) xs)) apart ∙ resent_apart l apart (num + 1) xs
-
-  -- nothing goes up
-  resent_ups : (c : Established) (k : Dir) (num : ℕ) (xs : List (ℕ × List ℕ)) → flat_map (up_of c k) (resends h b d num xs) ≡ []
-  resent_ups c k num [] = refl
-  resent_ups c k num (x ∷ xs) = resent_ups c k (num + 1) xs
-
-  -- no window moves
-  resent_frees : (c : Established) (k : Dir) (num : ℕ) (xs : List (ℕ × List ℕ)) → flat_map (freed_of c k) (resends h b d num xs) ≡ []
-  resent_frees c k num [] = refl
-  resent_frees c k num (x ∷ xs) = resent_frees c k (num + 1) xs
-
-  -- nothing is set at the terminal
-  pub resent_sets : (id : ℕ) (has : Bool) (num : ℕ) (xs : List (ℕ × List ℕ)) → fold (has_after id) has (resends h b d num xs) ≡ has
-  resent_sets id has num [] = refl
-  resent_sets id has num (x ∷ xs) = resent_sets id has (num + 1) xs
-
-  -- no command ends
-  pub resent_ends : (o : Option OpenCommand) (num : ℕ) (xs : List (ℕ × List ℕ)) → fold ends_command o (resends h b d num xs) ≡ o
-  resent_ends o num [] = refl
-  resent_ends o num (x ∷ xs) = resent_ends o (num + 1) xs
-
-  -- each COUNT is sent under the next number
-  resent_tags : (ys : List (Option ℕ)) (xs : List (ℕ × List ℕ)) (num n : ℕ) → n ≡ length ys
-      → listed (slice_get ys num) ++ flat_map (tag_of (leg d) b.id b.g num) (sends (resends h b d n xs)) ≡ listed (slice_get (ys ++ counts_sent xs) num)
-  resent_tags ys [] num n is = append-nil _ ∙ ap (λ zs. listed (slice_get zs num)) (sym (append-nil ys))
-  resent_tags ys (x ∷ xs) num n is =
-      let rest = flat_map (tag_of (leg d) b.id b.g num) (sends (resends h b d (n + 1) xs)) in
-      let tag : flat_map (tag_of (leg d) b.id b.g num) ((leg d, data_flight h b d n x.0 x.1) ∷ []) ≡ (if length ys == num then x.0 ∷ [] else []) =
-      rw (same_leg d, eq-eqb b.id b.id refl, eq-eqb b.g b.g refl, is) (append-nil _) in
-      let more : n + 1 ≡ length (ys ++ Some x.0 ∷ []) = ap (λ k. k + 1) is ∙ sym (length_push ys (Some x.0)) in
-      ap (λ zs. listed (slice_get ys num) ++ (zs ++ rest)) (sym (append-nil _) ∙ tag)
-      ∙ sym (append_assoc (listed (slice_get ys num)) (if length ys == num then x.0 ∷ [] else []) rest)
-      ∙ ap (λ zs. zs ++ rest) (listed_push ys x.0 num)
-      ∙ resent_tags (ys ++ Some x.0 ∷ []) xs num (n + 1) more
-      ∙ ap (λ zs. listed (slice_get zs num)) (append_assoc ys (Some x.0 ∷ []) (counts_sent xs))
-
-  -- on another link, or for another identity or generation, none is
-  resent_untagged : (l : LinkId) (id g num n : ℕ) → (is_same_link l (leg d) ≡ false) ⊎ ((b.id == id) ≡ false) ⊎ ((b.g == g) ≡ false) → (xs : List (ℕ × List ℕ))
-      → flat_map (tag_of l id g num) (sends (resends h b d n xs)) ≡ []
-  resent_untagged l id g num n apart [] = refl
-  resent_untagged l id g num n apart (x ∷ xs) =
-      let tag : tag_of l id g num (leg d, data_flight h b d n x.0 x.1) ≡ [] = elim apart [
-        | inl turned ↦ rw turned refl
-        | inr unlike ↦ elim (cases_Bool (is_same_link l (leg d))) [
-          | inr turned ↦ rw turned refl
-          | inl same ↦ elim unlike [
-            | inl other' ↦ rw (same, other') refl
-            | inr later ↦ elim (cases_Bool (b.id == id)) [ inl named ↦ rw (same, named, later) refl | inr other' ↦ rw (same, other') refl ]
-          ]
-        ]
-      ] in
-      ap (λ zs. zs ++ flat_map (tag_of l id g num) (sends (resends h b d (n + 1) xs))) tag ∙ resent_untagged l id g num (n + 1) apart xs
-
-  -- the COUNTs ascend
-  resent_ascend : (low from next num : ℕ) (xs : List (ℕ × List ℕ)) → low ≤ from → Rises from next xs → AscendsFrom low (flat_map count_in (sends (resends h b d num xs)))
-  resent_ascend low from next num [] le up = tt
-  resent_ascend low from next num (x ∷ xs) le up = (omega (arith, up.0), resent_ascend (x.0 + 1) (x.0 + 1) next (num + 1) xs (omega arith) up.1)
-
-  -- each has a COUNT
-  resent_counted : (num n : ℕ) (xs : List (ℕ × List ℕ)) → fold (λ a s. a + (if is_uncounted s then 1 else 0)) n (sends (resends h b d num xs)) ≡ n
-  resent_counted num n [] = refl
-  resent_counted num n (x ∷ xs) = resent_counted (num + 1) (n + 0) xs ∙ omega arith
+use Rattle.dc_world.proofs.Directions.{each_bearer, Apart, direction_leg, other_leg, protects_whichever}
+use Rattle.dc_world.proofs.Plain.{IsUndrawn, plans_same, there_then, there_before, none_mapped, tabled_busy}
+use Rattle.dc_world.proofs.Served.{lane_same, under_way_left, served_next, served_still, lane_of}
+use Rattle.dc_world.proofs.Silent.{no_ups, no_frees, no_move, none_carried, grows_same, none_more, none_sent_drawn}
+use Rattle.dc_world.proofs.Sound.{half, sender_table, receiver_table, IsNumberOf, IsPduOf, IsUnderWay, AllConfigured, PromiseOf, Phase, listed, IsServed, IsTabled, NoneSent, Happened, Sound}
+use Rattle.dc_world.proofs.Leaving.{promised}
+use Rattle.dc_world.proofs.Resent.{counts_sent, counts_at, given_again, each_resent, resent_ups, resent_frees, resent_sets, resent_ends, resent_tags, resent_untagged, resent_ascend, resent_counted}
 
 -- ---- the nodes, where the open command may be another
 
@@ -241,17 +103,13 @@ module _ (h : Header) (policies : ℕ) (t : List Entry) (w : WorldState) (sound 
   half_apart : (b' : Established) (d' : Dir) → Apart d id d' b'.id → half b' (sender_table d' after) ≡ half b' (sender_table d' w.nodes)
   half_apart b' d' apart = ap (half b') (sender_busy d' (sender_put d w.nodes id e') busy) ∙ sender_put_apart d w.nodes id e' b' d' apart
 
-  -- another established bearer of the identity is none
-  the_bearer : (b' : Established) → Contains (established t) b' → b'.id ≡ id → b' ≡ b
-  the_bearer b' at' same = same_bearer (established t) b' b sound.tables.once at' here (same ∙ sym named)
-
   -- the bearer was served
   was : IsServed t w.nodes w.links b d
   was = sound.served b d here
 
   -- with what the node held
   lane : IsLane b.n b.first (submitted b d t) (confirmed b d t) e.tx e.sent (half b (receiver_table d w.nodes)).rx
-  lane = subst (λ (x : Entities). IsLane b.n b.first (submitted b d t) (confirmed b d t) x.tx x.sent (half b (receiver_table d w.nodes)).rx) half_before was.lane
+  lane = lane_of t w.nodes w.links b d e was half_before
 
   -- what is so of each payload that is kept
   abbrev IsKeptHere : ℕ × List ℕ → Type 0
@@ -378,11 +236,7 @@ module _ (h : Header) (policies : ℕ) (t : List Entry) (w : WorldState) (sound 
     protects_all b' d' at' = (
       (λ is. absurd is),
       each_resent h b d (λ s. IsDataFlight (t ++ entry ∷ []) b' d' s → IsProtected h (t ++ entry ∷ []) b' d' s) (length e.sent) e.tx.kept (λ k x kept is.
-          let same : b' ≡ b = the_bearer b' (there_before t entry undrawn b' at') (sym is.1 ∙ named) in
-          let dir : d' ≡ d = sym (sym (direction_leg d) ∙ is.3) in
-          let spelled : List ℕ = data_pdu b.n (sn b.n x.0) (ciphered h b.id d x.0 x.1) in
-          subst (λ k. ProtectsSubmission h (t ++ entry ∷ []) b' k b.g (Some x.0) spelled) (sym dir)
-          (subst (λ y. ProtectsSubmission h (t ++ entry ∷ []) y d b.g (Some x.0) spelled) (sym same) (protected k x kept))),
+          protects_whichever h t (t ++ entry ∷ []) sound.tables.once b b' d d' (Some x.0) (data_pdu b.n (sn b.n x.0) (ciphered h b.id d x.0 x.1)) here (there_before t entry undrawn b' at') is.1 is.3 (protected k x kept)),
     )
 
     -- it is sent again for the recovery
@@ -412,12 +266,7 @@ module _ (h : Header) (policies : ℕ) (t : List Entry) (w : WorldState) (sound 
 
     -- under a generation that was drawn
     none_sent : NoneSent (t ++ entry ∷ [])
-    none_sent k i g num later =
-        let before : generation t < g = subst (λ n. n < g) (generation_same t entry undrawn) later in
-        let drawn : b.g ≤ generation t = established_drawn t b here in
-        let unlike : (b.g == g) ≡ false = ne_eqb b.g g (λ is. omega arith) in
-        tags_sent-next k i g num t entry ∙ ap (λ xs. xs ++ flat_map (tag_of k i g num) (sends entry.lines)) (sound.none_sent k i g num before)
-        ∙ resent_untagged h b d k i g num (length e.sent) (inr (inr unlike)) e.tx.kept
+    none_sent = none_sent_drawn t entry undrawn b here (λ k i g num unlike. resent_untagged h b d k i g num (length e.sent) (inr (inr unlike)) e.tx.kept) sound.none_sent
 
     -- ---- the tables
 
@@ -428,21 +277,8 @@ module _ (h : Header) (policies : ℕ) (t : List Entry) (w : WorldState) (sound 
     -- the nodes follow the transcript
     pub resending_tables : opens (generation t + 1) (open_command t) event answer.Ok ≡ busy → IsTabled (t ++ entry ∷ []) after
     resending_tables opened =
-        let tables = sound.tables in
-        let stand : established (t ++ entry ∷ []) ≡ established t = established_same t entry undrawn in
-        record {
-          master_long = keeps.master_long ∙ tables.master_long;
-          terminal_long = keeps.terminal_long ∙ tables.terminal_long;
-          master_is = λ k. keeps.bearers Dl k ∙ tables.master_is k ∙ ap (latest k) (sym stand);
-          terminal_is = λ k. keeps.bearers Ul k ∙ tables.terminal_is k
-              ∙ sym (ap (λ x. if x then latest k (established (t ++ entry ∷ [])) else None) (set_same k) ∙ ap (λ bs. if is_set k t then latest k bs else None) stand);
-          set_is = λ k. set_same k ∙ tables.set_is k ∙ sym (is_some_map (bearer_in w.nodes.terminal k)) ∙ ap (λ o. is_some o) (sym (keeps.bearers Ul k)) ∙ is_some_map (bearer_in after.terminal k);
-          drawn_is = keeps.drawn ∙ tables.drawn_is ∙ sym (generation_same t entry undrawn);
-          busy_is = sym (open_command-next t entry ∙ resent_ends h b d (opens (generation t + 1) (open_command t) event answer.Ok) (length e.sent) e.tx.kept ∙ opened);
-          once = subst IsOnce (sym stand) tables.once;
-          ranged = λ c is. tables.ranged c (there_before t entry undrawn c is);
-          keyed = λ c is. ap (key_in c.g c.id) (plans_same t entry undrawn) ∙ tables.keyed c (there_before t entry undrawn c is);
-        }
+        tabled_busy t entry undrawn set_same w.nodes (sender_put d w.nodes id e') keeps busy
+        (open_command-next t entry ∙ resent_ends h b d (opens (generation t + 1) (open_command t) event answer.Ok) (length e.sent) e.tx.kept ∙ opened) sound.tables
 
     -- ---- all that it owes
 

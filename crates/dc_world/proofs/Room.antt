@@ -11,14 +11,15 @@ least_push : (next : ℕ) (p : List ℕ) (es : List Kept) → least (next + 1) (
 least_push next p [] = omega arith
 least_push next p (x ∷ es) = let rest = least_push next p es in omega arith
 
--- why a submission is taken, and that Low stays
-pub record HasRoom (s after : Sender) : Type 0 where
+-- what a submission that is taken leaves, why it is taken, and that Low stays
+pub record HasRoom (s after : Sender) (p : List ℕ) (c : ℕ) : Type 0 where
   pub room : s.next < low s + window s.n
   pub left : s.next ≡ 2 ^ 32 - 1 → ⊥
   pub still : low after ≡ low s
+  pub is : ◌≡◌ {A = Sender × ℕ} (record s { next = s.next + 1; kept = s.kept ++ (s.next, p) ∷ [] }, s.next) (after, c)
 
 -- a submission that is taken had room
-pub has_room : (s after : Sender) (p : List ℕ) (c : ℕ) → taken s p ≡ Ok (after, c) → HasRoom s after
+pub has_room : (s after : Sender) (p : List ℕ) (c : ℕ) → taken s p ≡ Ok (after, c) → HasRoom s after p c
 has_room s after p c ok =
     elim (cases_Bool (nat_le (low s + window s.n) s.next)) [
       | inl full ↦ let f = rw full at ok in absurd (cc (f))
@@ -33,6 +34,7 @@ has_room s after p c ok =
                   room = leb-false _ _ room;
                   left = eqb-false _ _ left;
                   still = ap low (sym (ap (λ (q : Sender × ℕ). q.0) is)) ∙ least_push s.next p s.kept;
+                  is = is;
                 }
           ]
     ]

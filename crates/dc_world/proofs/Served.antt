@@ -1,5 +1,5 @@
 -- A bearer that is served is so after an entry; and what is under way.
-use Rattle.std.proofs.Common.{Option, ℕ, zero, suc, ◌≡◌, ◌-◌, ◌<◌, ◌≤◌, ◌⊎◌, ◌++◌, List, [], ◌∷◌, Some, take, slice_get, refl, sym, ap, ◌∙◌, subst, arith, inl, inr}
+use Rattle.std.proofs.Common.{Option, ℕ, zero, suc, ◌≡◌, ◌-◌, ◌<◌, ◌≤◌, ◌⊎◌, ◌++◌, List, [], ◌∷◌, Some, take, slice_get, refl, sym, ap, ◌∙◌, subst, arith, inl, inr, None, length, ◌==◌}
 use Rattle.std.specs.List.{flat_map, remove}
 use Rattle.std.proofs.lemmas.List.{append-nil, take-append-le}
 use Rattle.std.proofs.lemmas.Option.{same_Some}
@@ -19,6 +19,9 @@ use Rattle.dc_world.specs.Links.{Links, on}
 use Rattle.transcript.proofs.Establishing.{submitted-next, handed-next, confirmed-next, tags_sent-next}
 use Rattle.dc_world.proofs.Lane.{IsLane}
 use Rattle.dc_world.proofs.Sound.{half, sender_table, receiver_table, CarriesCount, IsUnderWay, listed, IsServed}
+use Rattle.std.specs.Prelude.{if◌then◌else◌}
+use Rattle.std.proofs.lemmas.Bool.Decides.{nat_tests}
+use Rattle.dc_world.specs.Entities.{Entities}
 
 -- ---- what is under way
 
@@ -26,6 +29,11 @@ use Rattle.dc_world.proofs.Sound.{half, sender_table, receiver_table, CarriesCou
 pub under_way_left : (b : Established) (c : ℕ) (fs gs : List Flight) → IsUnderWay b c fs → IsUnderWay b c (fs ++ gs)
 under_way_left b c [] gs way = absurd way
 under_way_left b c (f ∷ fs) gs way = elim way [ inl here ↦ inl here | inr there ↦ inr (under_way_left b c fs gs there) ]
+
+-- the new flight stands at the end of its leg
+pub under_way_last : (b : Established) (c : ℕ) (fs : List Flight) (f : Flight) → IsUnderWay b c (f ∷ []) → IsUnderWay b c (fs ++ f ∷ [])
+under_way_last b c [] f under = under
+under_way_last b c (x ∷ fs) f under = inr (under_way_last b c fs f under)
 
 -- a flight that is taken out leaves the others
 pub under_way_but : (b : Established) (c i : ℕ) (f : Flight) (fs : List Flight) → slice_get fs i ≡ Some f → IsUnderWay b c fs → CarriesCount b c f ⊎ IsUnderWay b c (remove fs i)
@@ -38,7 +46,28 @@ under_way_but b c (suc i) f (g ∷ fs) at way =
       | inr there ↦ elim (under_way_but b c i f fs at there) [ inl it ↦ inl it | inr still ↦ inr (inr still) ]
     ]
 
+-- ---- what was sent
+
+-- the PDU of a number, where one more was sent
+pub listed_push : (xs : List (Option ℕ)) (c num : ℕ) → listed (slice_get xs num) ++ (if length xs == num then c ∷ [] else []) ≡ listed (slice_get (xs ++ Some c ∷ []) num)
+listed_push [] c zero = refl
+listed_push [] c (suc num) = grind (arith, nat_tests)
+listed_push (x ∷ xs) c zero = grind (arith, nat_tests, append-nil (listed (Some x)))
+listed_push (x ∷ xs) c (suc num) = grind (arith, nat_tests, listed_push xs c num)
+
+-- a control PDU has no COUNT under its number
+pub listed_none : (xs : List (Option ℕ)) (num : ℕ) → listed (slice_get (xs ++ None ∷ []) num) ≡ listed (slice_get xs num)
+listed_none [] zero = refl
+listed_none [] (suc num) = refl
+listed_none (x ∷ xs) zero = refl
+listed_none (x ∷ xs) (suc num) = listed_none xs num
+
 -- ---- a bearer
+
+-- the lane of a bearer, with what the node that sends holds of it
+pub lane_of : (t : List Entry) (s : Nodes) (links : Links) (b : Established) (d : Dir) (e : Entities) → IsServed t s links b d → half b (sender_table d s) ≡ e
+    → IsLane b.n b.first (submitted b d t) (confirmed b d t) e.tx e.sent (half b (receiver_table d s)).rx
+lane_of t s links b d e was is = subst (λ (x : Entities). IsLane b.n b.first (submitted b d t) (confirmed b d t) x.tx x.sent (half b (receiver_table d s)).rx) is was.lane
 
 -- a lane with equal parts
 pub lane_same : (n : SnLen) (first : ℕ) (xs xs' : List (List ℕ)) (cs cs' : List Confirmation) (tx tx' : Sender) (sent sent' : List (Option ℕ)) (rx rx' : RxParts)

@@ -1,11 +1,9 @@
 -- A payload is submitted and taken.
-use Rattle.std.proofs.Common.{ℕ, zero, suc, ◌≡◌, ◌+◌, ◌-◌, ◌^◌, ◌<◌, ◌≤◌, ◌⊎◌, ◌==◌, ◌++◌, List, [], ◌∷◌, Option, Some, None, true, false, length, slice_get, refl, sym, ap, ◌∙◌, subst, arith, inl, inr}
+use Rattle.std.proofs.Common.{ℕ, ◌≡◌, ◌+◌, ◌-◌, ◌^◌, ◌<◌, ◌≤◌, ◌⊎◌, ◌==◌, ◌++◌, List, [], ◌∷◌, Option, Some, None, false, length, slice_get, refl, sym, ap, ◌∙◌, subst, arith, inl, inr}
 use Rattle.std.specs.Prelude.{Contains, Ok, if◌then◌else◌}
 use Rattle.std.specs.List.{flat_map}
 use Rattle.std.proofs.lemmas.List.{append-nil, length_push}
-use Rattle.std.proofs.lemmas.Option.{none-some}
-use Rattle.std.proofs.lemmas.Bool.{lt-leb, cases_Bool, cases_lt, eqb-true, eq-eqb, ne_eqb, cond-false, cond-true}
-use Rattle.std.proofs.lemmas.Bool.Decides.{nat_tests}
+use Rattle.std.proofs.lemmas.Bool.{lt-leb, cases_Bool, cases_lt, eq-eqb, ne_eqb, cond-false}
 use Rattle.dc_base.specs.Count.{window, sn}
 use Rattle.dc_base.specs.declared.nodes.Dir.{Dir}
 use Rattle.dc_base.specs.declared.nodes.Dir.TheVariants.{Ul, Dl}
@@ -21,92 +19,28 @@ use Rattle.pdcp_tx.specs.Sending.{taken}
 use Rattle.pdcp_rx.specs.Receiver.{Received}
 use Rattle.transcript.specs.Transcript.{Entry, sends}
 use Rattle.transcript.specs.Content.{mt_ctl, tm_ctl, put_on, is_same_link}
-use Rattle.transcript.specs.Bearers.{Established, established, latest, generation, is_same_dir, change, submission, submitted, confirms, confirmed, tag_of, told, open_command, at_submitter, unless_opening, master_key, key_in}
+use Rattle.transcript.specs.Bearers.{Established, established, is_same_dir, submission, submitted, confirms, confirmed, tag_of, told, at_submitter, master_key, key_in}
 use Rattle.transcript.specs.Claims.{Protects, ProtectsSubmission, IsLicensed, submit_answer}
 use Rattle.dc_world.specs.Entities.{Entities, bearer_in, with_bearer}
-use Rattle.dc_world.specs.Plane.{leg, other, ciphered, data_flight}
+use Rattle.dc_world.specs.Plane.{leg, ciphered, data_flight}
 use Rattle.dc_world.specs.Control.{Nodes}
 use Rattle.dc_world.specs.Links.{Links, on, moved}
 use Rattle.dc_world.specs.Run.{WorldState}
-use Rattle.transcript.proofs.Establishing.{submitted-next, tags_sent-next, same_bearer, is_latest_once, is_generation_once, established_drawn}
+use Rattle.transcript.proofs.Establishing.{submitted-next, is_latest_once, is_generation_once}
 use Rattle.dc_world.proofs.Lists.{slice_get_left, slice_get_last}
 use Rattle.dc_world.proofs.Lane.{IsLane, low_is, lane_taken}
 use Rattle.dc_world.proofs.Taking.{is_data_flight}
-use Rattle.dc_world.proofs.Tables.{with_sender, is_established, Keeps, half_at, sender_put_here, sender_put_apart, sender_put_rx, keeps_sender}
+use Rattle.dc_world.proofs.Tables.{with_sender, is_established, Keeps, half_at, sender_put_here, sender_put_apart, sender_put_rx, keeps_sender, not_opening, apart_at_master}
 use Rattle.dc_world.proofs.Contents.{on_moved}
-use Rattle.dc_world.proofs.Directions.{each_bearer, Apart, same_dir, other_dir, direction_leg}
-use Rattle.dc_world.proofs.Plain.{IsPlain, plans_same, generation_same, there_then, there_before, tabled_same, phase_same}
-use Rattle.dc_world.proofs.Served.{lane_same, under_way_left, served_next, served_still}
-use Rattle.dc_world.proofs.Silent.{no_ups, no_frees, no_move, none_carried, grows_same}
-use Rattle.dc_world.proofs.Sound.{half, sender_table, receiver_table, IsNumberOf, IsPduOf, a_pdu, IsUnderWay, PromiseOf, Phase, listed, IsServed, NoneSent, Happened, Sound}
-use Rattle.dc_world.proofs.Leaving.{no_command, no_completion}
+use Rattle.dc_world.proofs.Directions.{each_bearer, Apart, same_dir, other_dir, direction_leg, same_leg, other_leg, protects_whichever}
+use Rattle.dc_world.proofs.Plain.{IsPlain, plans_same, there_then, there_before, tabled_same, phase_same}
+use Rattle.dc_world.proofs.Served.{lane_same, served_next, served_still, under_way_last, listed_push, lane_of}
+use Rattle.dc_world.proofs.Silent.{no_ups, no_frees, no_move, none_carried, grows_same, none_sent_drawn}
+use Rattle.dc_world.proofs.Sound.{half, sender_table, receiver_table, IsNumberOf, IsPduOf, IsUnderWay, Phase, listed, IsServed, NoneSent, Happened, Sound}
+use Rattle.dc_world.proofs.Leaving.{no_command, no_completion, own_leg, promised, flying_put}
 use Rattle.dc_world.proofs.Room.{has_room}
 
--- the PDU of a number, where one more was sent
-listed_push : (xs : List (Option ℕ)) (c num : ℕ) → listed (slice_get xs num) ++ (if length xs == num then c ∷ [] else []) ≡ listed (slice_get (xs ++ Some c ∷ []) num)
-listed_push [] c zero = refl
-listed_push [] c (suc num) = grind (arith, nat_tests)
-listed_push (x ∷ xs) c zero = grind (arith, nat_tests, append-nil (listed (Some x)))
-listed_push (x ∷ xs) c (suc num) = grind (arith, nat_tests, listed_push xs c num)
-
--- ---- links and directions
-
--- it stands on the leg of its direction
-own_leg : (d : Dir) (f : Flight) → put_on (leg d) (line.Send (leg d) f ∷ []) ≡ f ∷ []
-own_leg Dl f = refl
-own_leg Ul f = refl
-
--- a leg is the same as itself
-same_leg : (d : Dir) → is_same_link (leg d) (leg d) ≡ true
-same_leg Dl = refl
-same_leg Ul = refl
-
--- the legs of the two directions are two
-other_leg : (d : Dir) → is_same_link (leg (other d)) (leg d) ≡ false
-other_leg Dl = refl
-other_leg Ul = refl
-
--- a PDU of the direction of its leg is promised
-promised : (h : Header) (t : List Entry) (s : Nodes) (d : Dir) (f : Flight) → IsPduOf h t s d f → PromiseOf h t s (leg d, f)
-promised h t s Dl f pdu = a_pdu pdu
-promised h t s Ul f pdu = a_pdu pdu
-
--- the new flight stands at the end of its leg
-under_way_last : (b : Established) (c : ℕ) (fs : List Flight) (f : Flight) → IsUnderWay b c (f ∷ []) → IsUnderWay b c (fs ++ f ∷ [])
-under_way_last b c [] f under = under
-under_way_last b c (x ∷ fs) f under = inr (under_way_last b c fs f under)
-
 module _ (h : Header) (policies : ℕ) (t : List Entry) (w : WorldState) (sound : Sound h policies t w) where
-  -- a bearer that the master can submit to is not the one whose command is open
-  not_changed : (id : ℕ) (x : Established) → at_submitter Dl id t ≡ Some x
-      → (b : Established) → Contains (established t) b → w.nodes.busy ≡ Some (change b.g) → (id == b.id) ≡ false
-  not_changed id x there b at' busy =
-      elim (cases_Bool (id == b.id)) [
-        | inl same ↦
-            let opened : open_command t ≡ Some (change b.g) = sym sound.tables.busy_is ∙ busy in
-            let found : latest id (established t) ≡ Some b = ap (λ k. latest k (established t)) (eqb-true id b.id same) ∙ sound.tables.once b at' in
-            let none : unless_opening (open_command t) (latest id (established t)) ≡ None =
-            ap (λ o. unless_opening o (latest id (established t))) opened ∙ ap (unless_opening (Some (change b.g))) found ∙ cond-true _ _ _ (eq-eqb b.g b.g refl) in
-            absurd (none-some x (sym none ∙ there))
-        | inr apart ↦ apart
-      ]
-
-  -- nor is it at the terminal, which lacks that one
-  not_opening : (d : Dir) (id : ℕ) (e : Entities) → bearer_in (sender_table d w.nodes) id ≡ Some e → at_submitter d id t ≡ Some e.bearer
-      → (b : Established) → Contains (established t) b → w.nodes.busy ≡ Some (change b.g) → bearer_in w.nodes.terminal b.id ≡ None → (id == b.id) ≡ false
-  not_opening Dl id e at there b at' busy absent = not_changed id e.bearer there b at' busy
-  not_opening Ul id e at there b at' busy absent =
-      elim (cases_Bool (id == b.id)) [
-        | inl same ↦ absurd (none-some e (sym absent ∙ ap (bearer_in w.nodes.terminal) (sym (eqb-true id b.id same)) ∙ at))
-        | inr apart ↦ apart
-      ]
-
-  -- so it is not what the master sends of that one
-  apart_at_master : (d : Dir) (id : ℕ) (x : Established) → at_submitter d id t ≡ Some x
-      → (b : Established) → Contains (established t) b → w.nodes.busy ≡ Some (change b.g) → Apart d id Dl b.id
-  apart_at_master Dl id x there b at' busy = inr (not_changed id x there b at' busy)
-  apart_at_master Ul id x there b at' busy = inl refl
-
   module _ (id : ℕ) (d : Dir) (payload : List ℕ) (e : Entities) (tx : Sender) (c : ℕ) (good : IsPayload payload)
       (at : bearer_in (sender_table d w.nodes) id ≡ Some e) (there : at_submitter d id t ≡ Some e.bearer) (ok : taken e.tx payload ≡ Ok (tx, c)) where
     -- the bearer
@@ -153,10 +87,6 @@ module _ (h : Header) (policies : ℕ) (t : List Entry) (w : WorldState) (sound 
     rx_still : (b' : Established) (d' : Dir) → (half b' (receiver_table d' after)).rx ≡ (half b' (receiver_table d' w.nodes)).rx
     rx_still b' d' = sender_put_rx d w.nodes id e e' at refl b' d'
 
-    -- another established bearer of the identity is none
-    the_bearer : (b' : Established) → Contains (established t) b' → b'.id ≡ id → b' ≡ b
-    the_bearer b' at' same = same_bearer (established t) b' b sound.tables.once at' here (same ∙ sym named)
-
     -- ---- what the entry says
 
     -- the payload is one of the bearer
@@ -194,7 +124,7 @@ module _ (h : Header) (policies : ℕ) (t : List Entry) (w : WorldState) (sound 
 
     -- what was under way is so
     flying : (b' : Established) (d' : Dir) (k : ℕ) → IsUnderWay b' k (on w.links (leg d')) → IsUnderWay b' k (on links' (leg d'))
-    flying b' d' k under = subst (IsUnderWay b' k) (sym (on_then (leg d'))) (under_way_left b' k (on w.links (leg d')) (put_on (leg d') entry.lines) under)
+    flying = flying_put w.links sound.long entry.lines
 
     -- ---- the bearer
 
@@ -212,7 +142,7 @@ module _ (h : Header) (policies : ℕ) (t : List Entry) (w : WorldState) (sound 
 
     -- so was what the node held
     lane : IsLane b.n b.first (submitted b d t) (confirmed b d t) e.tx e.sent (half b (receiver_table d w.nodes)).rx
-    lane = subst (λ (x : Entities). IsLane b.n b.first (submitted b d t) (confirmed b d t) x.tx x.sent (half b (receiver_table d w.nodes)).rx) half_before was.lane
+    lane = lane_of t w.nodes w.links b d e was half_before
 
     -- and what it holds then, with the next COUNT
     taken_lane : (c ≡ b.first + length (submitted b d t)) × IsLane b.n b.first (submitted b d t ++ payload ∷ []) (confirmed b d t) tx (e.sent ++ Some c ∷ []) (half b (receiver_table d w.nodes)).rx
@@ -284,12 +214,7 @@ module _ (h : Header) (policies : ℕ) (t : List Entry) (w : WorldState) (sound 
     -- and is of no other bearer
     protects_all : (b' : Established) (d' : Dir) → Contains (established (t ++ entry ∷ [])) b' → Protects h b' d' t entry
     protects_all b' d' at' = (
-      λ is.
-          let same : b' ≡ b = the_bearer b' (there_before t entry plain.undrawn b' at') (sym is.1 ∙ named) in
-          let dir : d' ≡ d = sym (sym (direction_leg d) ∙ is.3) in
-          let pdu : List ℕ = data_pdu b.n (sn b.n c) (ciphered h b.id d c payload) in
-          subst (λ k. ProtectsSubmission h (t ++ entry ∷ []) b' k b.g (Some c) pdu) (sym dir)
-          (subst (λ x. ProtectsSubmission h (t ++ entry ∷ []) x d b.g (Some c) pdu) (sym same) protected),
+      λ is. protects_whichever h t (t ++ entry ∷ []) sound.tables.once b b' d d' (Some c) (data_pdu b.n (sn b.n c) (ciphered h b.id d c payload)) here (there_before t entry plain.undrawn b' at') is.1 is.3 protected,
       tt,
     )
 
@@ -360,16 +285,10 @@ module _ (h : Header) (policies : ℕ) (t : List Entry) (w : WorldState) (sound 
 
     -- under a generation that was drawn
     none_sent : NoneSent (t ++ entry ∷ [])
-    none_sent l k g num later =
-        let before : generation t < g = subst (λ n. n < g) (generation_same t entry plain.undrawn) later in
-        let drawn : b.g ≤ generation t = established_drawn t b here in
-        let none : flat_map (tag_of l k g num) (sends entry.lines) ≡ [] =
-        (let unlike : (b.g == g) ≡ false = ne_eqb b.g g (λ is. omega arith) in
-        elim (cases_Bool (is_same_link l (leg d))) [
-          | inl same ↦ elim (cases_Bool (b.id == k)) [ inl named' ↦ rw (same, named', unlike) refl | inr apart ↦ rw (same, apart) refl ]
-          | inr apart ↦ rw apart refl
-        ]) in
-        tags_sent-next l k g num t entry ∙ ap (λ xs. xs ++ flat_map (tag_of l k g num) (sends entry.lines)) (sound.none_sent l k g num before) ∙ none
+    none_sent = none_sent_drawn t entry plain.undrawn b here (λ l k g num unlike. elim (cases_Bool (is_same_link l (leg d))) [
+      | inl same ↦ elim (cases_Bool (b.id == k)) [ inl named' ↦ rw (same, named', unlike) refl | inr apart ↦ rw (same, apart) refl ]
+      | inr apart ↦ rw apart refl
+    ]) sound.none_sent
 
     -- the command stands where it stood
     phase : Phase h (t ++ entry ∷ []) after links'
@@ -377,8 +296,8 @@ module _ (h : Header) (policies : ℕ) (t : List Entry) (w : WorldState) (sound 
         phase_same t entry plain w.nodes after keeps h w.links links'
         (on_then mt_ctl ∙ ap (λ fs. on w.links mt_ctl ++ fs) (no_command d f) ∙ append-nil (on w.links mt_ctl))
         (on_then tm_ctl ∙ ap (λ fs. on w.links tm_ctl ++ fs) (no_completion d f) ∙ append-nil (on w.links tm_ctl))
-        (λ b' at' busy absent d'. submission_apart b' d' (inr (not_opening d id e at there b' at' busy absent)))
-        (λ b' at' busy. ap (λ (x : Entities). x.sent) (sender_put_apart d w.nodes id e' b' Dl (apart_at_master d id b there b' at' busy)))
+        (λ b' at' busy absent d'. submission_apart b' d' (inr (not_opening t w.nodes sound.tables d id e at there b' at' busy absent)))
+        (λ b' at' busy. ap (λ (x : Entities). x.sent) (sender_put_apart d w.nodes id e' b' Dl (apart_at_master t w.nodes sound.tables d id b there b' at' busy)))
         sound.phase
 
     -- so all is kept

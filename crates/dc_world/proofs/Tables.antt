@@ -1,20 +1,21 @@
 -- What a node holds after a bearer is put in its place, and how that follows the transcript.
 use Rattle.std.proofs.Common.{ℕ, zero, suc, ◌≡◌, ◌+◌, ◌-◌, ◌<◌, ◌≤◌, ◌==◌, true, false, List, [], ◌∷◌, Option, Some, None, length, take, refl, sym, ap, ◌∙◌, subst, arith, inl, inr}
 use Rattle.std.proofs.lemmas.List.{get_or-set_same, get_or-set_other, length-set, length-take-le}
-use Rattle.std.proofs.lemmas.Option.{same_Some}
-use Rattle.std.proofs.lemmas.Bool.{cases_Bool, eq-eqb, eqb-true}
+use Rattle.std.proofs.lemmas.Option.{same_Some, none-some}
+use Rattle.std.proofs.lemmas.Bool.{cases_Bool, eq-eqb, eqb-true, cond-true}
 use Rattle.std.specs.Prelude.{Contains}
 use Rattle.std.specs.Option.{option_map}
 use Rattle.dc_base.specs.declared.nodes.Dir.{Dir}
 use Rattle.dc_base.specs.declared.nodes.Dir.TheVariants.{Ul, Dl}
 use Rattle.transcript.specs.Transcript.{Entry}
-use Rattle.transcript.specs.Bearers.{Established, established, latest, at_terminal, is_set, submitted, handed, numbered}
+use Rattle.transcript.specs.Bearers.{Established, established, latest, at_terminal, is_set, submitted, handed, numbered, change, open_command, at_submitter, unless_opening}
 use Rattle.transcript.proofs.Establishing.{latest_there}
 use Rattle.dc_world.specs.Entities.{Entities, Table, bearer_in, with_bearer}
 use Rattle.dc_world.specs.Control.{Nodes}
 use Rattle.dc_world.specs.Links.{Links}
 use Rattle.dc_world.proofs.Sound.{or_fresh, half, sender_table, receiver_table, IsServed, IsTabled}
 use Rattle.dc_world.proofs.Directions.{Apart, other_id}
+use Rattle.dc_world.specs.Plane.{other}
 
 -- the place has what was put there
 pub bearer_in-same : (table : Table) (id : ℕ) (x : Option Entities) → id < length table → bearer_in (with_bearer table id x) id ≡ x
@@ -37,6 +38,11 @@ with_sender Ul s table = record s { terminal = table }
 abbrev pub with_receiver : Dir → Nodes → Table → Nodes
 with_receiver Dl s table = record s { terminal = table }
 with_receiver Ul s table = record s { master = table }
+
+-- the nodes with the table that they have
+pub same_nodes : (d : Dir) (s : Nodes) → with_sender d s (sender_table d s) ≡ s
+same_nodes Dl s = refl
+same_nodes Ul s = refl
 
 -- an identity that has a bearer is within the table
 pub within_table : (table : Table) (id : ℕ) (e : Entities) → bearer_in table id ≡ Some e → id < length table
@@ -120,6 +126,34 @@ receiver_put_apart Dl s id e b Ul apart = refl
 receiver_put_apart Ul s id e b Dl apart = refl
 receiver_put_apart Ul s id e b Ul apart = half_other b s.master id (Some e) (other_id Ul id b.id apart)
 
+-- ---- the two ends of a leg
+
+-- the node that sends in a direction receives in the other
+pub turned : (d : Dir) (s : Nodes) → receiver_table (other d) s ≡ sender_table d s
+turned Dl s = refl
+turned Ul s = refl
+
+-- the receiver's table is that from which it sends the other way
+pub half_back : (d : Dir) (s : Nodes) (b : Established) (r : Entities) → bearer_in (receiver_table d s) b.id ≡ Some r → half b (sender_table (other d) s) ≡ r
+half_back Dl s b r has = half_at b s.terminal b.id r has refl
+half_back Ul s b r has = half_at b s.master b.id r has refl
+
+-- what it sends with is there then
+pub put_back_here : (d : Dir) (s : Nodes) (b : Established) (r r' : Entities) → bearer_in (receiver_table d s) b.id ≡ Some r → half b (sender_table (other d) (receiver_put d s b.id r')) ≡ r'
+put_back_here Dl s b r r' has = sender_put_here Ul s b b.id r r' has refl
+put_back_here Ul s b r r' has = sender_put_here Dl s b b.id r r' has refl
+
+-- any other is as before
+pub put_back_apart : (d : Dir) (s : Nodes) (id : ℕ) (r : Entities) (x : Established) (k : Dir) → Apart (other d) id k x.id → half x (sender_table k (receiver_put d s id r)) ≡ half x (sender_table k s)
+put_back_apart Dl s id r x k apart = sender_put_apart Ul s id r x k apart
+put_back_apart Ul s id r x k apart = sender_put_apart Dl s id r x k apart
+
+-- and so is each receiving side
+pub put_back_rx : (d : Dir) (s : Nodes) (id : ℕ) (r r' : Entities) → bearer_in (receiver_table d s) id ≡ Some r → r'.rx ≡ r.rx
+    → (x : Established) (k : Dir) → (half x (receiver_table k (receiver_put d s id r'))).rx ≡ (half x (receiver_table k s)).rx
+put_back_rx Dl s id r r' has same x k = sender_put_rx Ul s id r r' has same x k
+put_back_rx Ul s id r r' has same x k = sender_put_rx Dl s id r r' has same x k
+
 -- ---- nodes that keep their bearers
 
 -- each place has the same bearer as before
@@ -182,6 +216,36 @@ module _ (t : List Entry) (s : Nodes) (tables : IsTabled t s) where
   -- it is established, under that identity
   pub is_established : (d : Dir) (id : ℕ) (e : Entities) → bearer_in (sender_table d s) id ≡ Some e → Contains (established t) e.bearer × (e.bearer.id ≡ id)
   is_established d id e at = latest_there id (established t) e.bearer (latest_at d id e at)
+
+  -- a bearer that the master can submit to is not the one whose command is open
+  pub not_changed : (id : ℕ) (x : Established) → at_submitter Dl id t ≡ Some x
+      → (b : Established) → Contains (established t) b → s.busy ≡ Some (change b.g) → (id == b.id) ≡ false
+  not_changed id x there b at' busy =
+      elim (cases_Bool (id == b.id)) [
+        | inl same ↦
+            let opened : open_command t ≡ Some (change b.g) = sym tables.busy_is ∙ busy in
+            let found : latest id (established t) ≡ Some b = ap (λ k. latest k (established t)) (eqb-true id b.id same) ∙ tables.once b at' in
+            let none : unless_opening (open_command t) (latest id (established t)) ≡ None =
+            ap (λ o. unless_opening o (latest id (established t))) opened ∙ ap (unless_opening (Some (change b.g))) found ∙ cond-true _ _ _ (eq-eqb b.g b.g refl) in
+            absurd (none-some x (sym none ∙ there))
+        | inr apart ↦ apart
+      ]
+
+  -- nor is it at the terminal, which lacks that one
+  pub not_opening : (d : Dir) (id : ℕ) (e : Entities) → bearer_in (sender_table d s) id ≡ Some e → at_submitter d id t ≡ Some e.bearer
+      → (b : Established) → Contains (established t) b → s.busy ≡ Some (change b.g) → bearer_in s.terminal b.id ≡ None → (id == b.id) ≡ false
+  not_opening Dl id e at there b at' busy absent = not_changed id e.bearer there b at' busy
+  not_opening Ul id e at there b at' busy absent =
+      elim (cases_Bool (id == b.id)) [
+        | inl same ↦ absurd (none-some e (sym absent ∙ ap (bearer_in s.terminal) (sym (eqb-true id b.id same)) ∙ at))
+        | inr apart ↦ apart
+      ]
+
+  -- so it is not what the master sends of that one
+  pub apart_at_master : (d : Dir) (id : ℕ) (x : Established) → at_submitter d id t ≡ Some x
+      → (b : Established) → Contains (established t) b → s.busy ≡ Some (change b.g) → Apart d id Dl b.id
+  apart_at_master Dl id x there b at' busy = inr (not_changed id x there b at' busy)
+  apart_at_master Ul id x there b at' busy = inl refl
 
 -- each payload has its COUNT
 length-numbered : (c : ℕ) (sdus : List (List ℕ)) → length (numbered c sdus) ≡ length sdus

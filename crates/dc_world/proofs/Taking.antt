@@ -1,6 +1,6 @@
 -- What a node makes of the data PDU of a submission: ciphered twice, its payload is as it was submitted; it confirms nothing.
-use Rattle.std.proofs.Common.{ℕ, ◌≡◌, ◌-◌, ◌^◌, ◌<◌, ◌++◌, Bool, true, false, List, [], ◌∷◌, Option, Some, Ok, length, map, refl, ap, ◌∙◌, subst, arith}
-use Rattle.std.specs.Prelude.{bit_xor, if◌then◌else◌}
+use Rattle.std.proofs.Common.{ℕ, ◌≡◌, ◌-◌, ◌^◌, ◌<◌, ◌++◌, Bool, true, false, List, [], ◌∷◌, Option, Some, Ok, length, map, refl, ap, ◌∙◌, subst, arith, ◌==◌}
+use Rattle.std.specs.Prelude.{bit_xor, if◌then◌else◌, ◌&&◌}
 use Rattle.std.specs.Int.Bits.{xor_self, xor_zero_r}
 use Rattle.std.proofs.lemmas.Bool.{cond-true, cond-false, eq-eqb, ne_eqb}
 use Rattle.std.proofs.lemmas.Bool.Decides.{nat_tests}
@@ -23,10 +23,11 @@ use Rattle.pdcp_pdu.proofs.Reading.{data_again}
 use Rattle.pdcp_rx.specs.Receiver.{put, handed_of}
 use Rattle.transcript.specs.Text.{is_data}
 use Rattle.transcript.specs.Transcript.{Entry}
-use Rattle.transcript.specs.Bearers.{Established, master_key, confirmed_by, read_of}
+use Rattle.transcript.specs.Bearers.{Established, master_key, confirmed_by, read_of, is_generation_of, submitter}
 use Rattle.dc_world.specs.Entities.{Entities}
 use Rattle.dc_world.specs.Plane.{ciphered, data_flight, flight_taken, pdu_taken, with_count, sdu_taken, up_line, ack_line}
 use lib.Bits.{xor_assoc}
+use Rattle.transcript.specs.Content.{is_to}
 
 -- a number combined twice with the same is as before
 xor_twice : (x k : ℕ) → bit_xor (bit_xor x k) k ≡ x
@@ -107,8 +108,13 @@ none_either : {A : Type 0} (c : Bool) (xs : List A) → xs ≡ [] → (if c then
 none_either true xs none = none
 none_either false xs none = refl
 
+-- what a PDU on a link confirms
+pub pdu_confirms : (x : Established) (k : Dir) (t : List Entry) (l : LinkId) (id g num : ℕ) (tag : Option ℕ) (pdu : List ℕ)
+    → confirmed_by x k t (Some (l, flight.Air id g num tag pdu)) ≡ (if is_to (submitter k) l && (id == x.id) && is_generation_of x g t then read_of (decoded x.n pdu) else [])
+pdu_confirms x Dl t l id g num tag pdu = refl
+pdu_confirms x Ul t l id g num tag pdu = refl
+
 -- so it confirms nothing
 pub data_confirmed : (x : Established) (k : Dir) (t : List Entry) (l : LinkId) (id g num : ℕ) (tag : Option ℕ) (pdu : List ℕ) → is_data pdu ≡ true
     → confirmed_by x k t (Some (l, flight.Air id g num tag pdu)) ≡ []
-data_confirmed x Ul t l id g num tag pdu is = none_either _ _ (no_report x.n pdu is)
-data_confirmed x Dl t l id g num tag pdu is = none_either _ _ (no_report x.n pdu is)
+data_confirmed x k t l id g num tag pdu is = pdu_confirms x k t l id g num tag pdu ∙ none_either _ _ (no_report x.n pdu is)
