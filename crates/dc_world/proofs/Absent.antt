@@ -1,10 +1,10 @@
 -- A node without a bearer.
-use Rattle.std.proofs.Common.{ℕ, zero, suc, ◌≡◌, Bool, true, false, List, Option, Some, None, replicate, refl, ap, ◌∙◌}
+use Rattle.std.proofs.Common.{ℕ, zero, suc, ◌≡◌, Bool, true, false, Option, Some, None, replicate, refl, ap, ◌∙◌}
 use Rattle.std.specs.Prelude.{slice_index_or, ◌&&◌}
 use Rattle.dc_base.specs.declared.flights.Flight.{Flight}
 use Rattle.dc_base.specs.declared.flights.Flight.TheVariants.{Air, Ack, Tun, Sdu, End, Told, Ctl}
 use Rattle.transcript.specs.Text.{is_data}
-use Rattle.dc_world.specs.Entities.{Entities, no_bearers, bearer_in}
+use Rattle.dc_world.specs.Entities.{Entities, no_bearers}
 use Rattle.dc_world.specs.Plane.{is_behind, is_aged}
 
 none_at : (n i : ℕ) → slice_index_or {A = Option Entities} (replicate n None) i None ≡ None

@@ -14,7 +14,7 @@ use Rattle.dc_base.specs.declared.events.Line.TheVariants as line
 use Rattle.dc_base.specs.declared.events.Note.TheVariants as note
 use Rattle.transcript.specs.Transcript.{Entry}
 use Rattle.transcript.specs.Content.{mt_ctl, tm_ctl, given}
-use Rattle.transcript.specs.Bearers.{change, Established, established, is_set, confirms}
+use Rattle.transcript.specs.Bearers.{change, Established, established}
 use Rattle.transcript.specs.Claims.{HasCause}
 use Rattle.dc_world.specs.Plane.{leg}
 use Rattle.dc_world.specs.Control.{Nodes, is_change, ends, told_master}

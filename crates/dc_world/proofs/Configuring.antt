@@ -18,7 +18,7 @@ use Rattle.dc_base.specs.declared.events.Note.TheVariants as note
 use Rattle.pdcp_tx.specs.Sender.{low}
 use Rattle.transcript.specs.Transcript.{Entry}
 use Rattle.transcript.specs.Content.{mt_ctl, tm_ctl, given}
-use Rattle.transcript.specs.Bearers.{change, Established, established, latest, is_set, at_terminal, key_in, confirms}
+use Rattle.transcript.specs.Bearers.{change, Established, established, latest, is_set, at_terminal, key_in}
 use Rattle.transcript.specs.Claims.{IsLicensed, HasCause}
 use Rattle.dc_world.specs.Entities.{fresh, bearer_in, with_bearer}
 use Rattle.dc_world.specs.Plane.{leg}

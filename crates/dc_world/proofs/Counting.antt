@@ -1,5 +1,5 @@
 -- What lines count, one after another.
-use Rattle.std.proofs.Common.{ℕ, ◌≡◌, ◌+◌, ◌≤◌, arith, ◌++◌, List, [], ◌∷◌, length, refl, ap, ◌∙◌, zero-add, length-append}
+use Rattle.std.proofs.Common.{ℕ, ◌≡◌, ◌+◌, ◌≤◌, arith, ◌++◌, List, [], ◌∷◌, length, ap, ◌∙◌, zero-add, length-append}
 use Rattle.std.specs.Prelude.{cond, sum_by}
 use Rattle.std.proofs.lemmas.List.Sums.{sum_by-append}
 use Rattle.std.proofs.lemmas.Grind.{flat_map-append}

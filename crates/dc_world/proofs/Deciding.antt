@@ -1,15 +1,11 @@
 -- What is decided on an event: how the run goes on with it, and the bearer that a node serves.
-use Rattle.std.proofs.Common.{ℕ, ◌≡◌, ◌+◌, ◌++◌, List, [], ◌∷◌, Option, Some, None, refl, sym, ap, ◌∙◌, inl, inr}
+use Rattle.std.proofs.Common.{ℕ, ◌≡◌, ◌++◌, List, [], ◌∷◌, Option, Some, None, refl, sym, ap, ◌∙◌, inl, inr}
 use Rattle.std.specs.Option.{option_map}
 use Rattle.std.proofs.lemmas.Bool.{cases_Bool}
 use Rattle.dc_base.specs.declared.nodes.Dir.{Dir}
 use Rattle.dc_base.specs.declared.nodes.Dir.TheVariants.{Ul, Dl}
-use Rattle.dc_base.specs.declared.flights.Flight.TheVariants as flight
-use Rattle.dc_base.specs.declared.answers.Answer.TheVariants as answer
 use Rattle.dc_base.specs.declared.events.Header.{Header}
 use Rattle.dc_base.specs.declared.events.Event.{Event}
-use Rattle.dc_base.specs.declared.events.Line.TheVariants as line
-use Rattle.pdcp_tx.specs.declared.tx.TxErr.TheVariants as refused
 use Rattle.transcript.specs.Transcript.{Entry}
 use Rattle.transcript.specs.Content.{place_taken}
 use Rattle.transcript.specs.Bearers.{OpenCommand, change, recovery, established, latest, unless_opening, is_opening, at_master, at_submitter}

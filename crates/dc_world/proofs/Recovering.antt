@@ -15,7 +15,7 @@ use Rattle.dc_base.specs.declared.events.Line.TheVariants as line
 use Rattle.dc_base.specs.declared.events.Note.TheVariants as note
 use Rattle.transcript.specs.Transcript.{Entry}
 use Rattle.transcript.specs.Content.{mt_ctl, tm_ctl, given, put_on, without_taken}
-use Rattle.transcript.specs.Bearers.{OpenCommand, Established, established, recovery, latest, is_set, open_command, unless_opening, at_master, confirms}
+use Rattle.transcript.specs.Bearers.{OpenCommand, Established, established, recovery, latest, open_command, unless_opening, at_master, confirms}
 use Rattle.dc_world.specs.Entities.{Entities, bearer_in}
 use Rattle.dc_world.specs.Plane.{leg}
 use Rattle.dc_world.specs.Control.{Nodes, is_change, is_recovery, unless_open, recovers_there, told_terminal, told_master}

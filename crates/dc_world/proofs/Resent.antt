@@ -1,5 +1,5 @@
 -- The PDUs that a node sends again for all that it keeps of a bearer: their lines, and what these do not say.
-use Rattle.std.proofs.Common.{ℕ, zero, suc, ◌≡◌, ◌+◌, ◌-◌, ◌<◌, ◌≤◌, ◌⊎◌, ◌==◌, ◌++◌, List, [], ◌∷◌, Option, Some, Bool, false, length, map, slice_get, refl, sym, ap, ◌∙◌, subst, arith, inl, inr, append_assoc}
+use Rattle.std.proofs.Common.{ℕ, zero, suc, ◌≡◌, ◌+◌, ◌<◌, ◌≤◌, ◌⊎◌, ◌==◌, ◌++◌, List, [], ◌∷◌, Option, Some, Bool, false, length, map, slice_get, refl, sym, ap, ◌∙◌, subst, arith, inl, inr, append_assoc}
 use Rattle.std.specs.Prelude.{if◌then◌else◌, fold}
 use Rattle.std.specs.List.{AllByRecursion, flat_map}
 use Rattle.std.proofs.lemmas.List.{append-nil, length_push}
@@ -7,10 +7,7 @@ use Rattle.std.proofs.lemmas.Bool.{cases_Bool, eq-eqb}
 use Rattle.dc_base.specs.declared.nodes.Dir.{Dir}
 use Rattle.dc_base.specs.declared.nodes.LinkId.{LinkId}
 use Rattle.dc_base.specs.declared.flights.Flight.{Flight}
-use Rattle.dc_base.specs.declared.flights.Flight.TheVariants as flight
-use Rattle.dc_base.specs.declared.answers.Answer.TheVariants as answer
 use Rattle.dc_base.specs.declared.events.Header.{Header}
-use Rattle.dc_base.specs.declared.events.Line.TheVariants as line
 use Rattle.pdcp_tx.specs.Sender.{low, Rises}
 use Rattle.transcript.specs.Transcript.{sends}
 use Rattle.transcript.specs.Content.{is_same_link, put_on}

@@ -9,14 +9,12 @@ use Rattle.dc_base.specs.declared.nodes.Dir.{Dir}
 use Rattle.dc_base.specs.declared.nodes.Dir.TheVariants.{Ul, Dl}
 use Rattle.dc_base.specs.declared.nodes.Node.{Node}
 use Rattle.dc_base.specs.declared.nodes.Node.TheVariants.{T, M, A, B}
-use Rattle.dc_base.specs.declared.flights.Flight.TheVariants as flight
 use Rattle.dc_base.specs.declared.answers.Answer.TheVariants as answer
 use Rattle.dc_base.specs.declared.answers.Answer.TheVariants.{No}
 use Rattle.dc_base.specs.declared.answers.Refusal.{Refusal}
 use Rattle.dc_base.specs.declared.answers.Refusal.TheVariants.{NoBearer, Full, Exhausted}
 use Rattle.dc_base.specs.declared.events.Header.{Header}
 use Rattle.dc_base.specs.declared.events.Event.TheVariants.{Report, Submit}
-use Rattle.dc_base.specs.declared.events.Line.TheVariants as line
 use Rattle.pdcp_pdu.specs.DataPdu.{IsPayload}
 use Rattle.pdcp_tx.specs.Sender.{Sender, low}
 use Rattle.pdcp_tx.specs.Sending.{taken}

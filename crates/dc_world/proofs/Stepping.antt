@@ -1,6 +1,6 @@
 -- A flight that is to be taken from its link, or a tunnel that is to lose or repeat one: it is done, or refused.
-use Rattle.std.proofs.Common.{ℕ, zero, suc, ◌≡◌, ◌-◌, ◌≤◌, ◌&&◌, ◌⊎◌, List, [], ◌∷◌, Option, Some, None, true, false, length, slice_get, refl, sym, ap, ◌∙◌, subst, arith, inl, inr}
-use Rattle.std.specs.Prelude.{if◌then◌else◌, nat_lt, nat_le, not, Ok}
+use Rattle.std.proofs.Common.{ℕ, zero, suc, ◌≡◌, ◌≤◌, ◌&&◌, ◌⊎◌, List, [], ◌∷◌, Option, Some, None, true, false, length, slice_get, refl, sym, ap, ◌∙◌, subst, arith, inl, inr}
+use Rattle.std.specs.Prelude.{if◌then◌else◌, nat_lt, nat_le, not}
 use Rattle.std.proofs.lemmas.Option.{same_Some}
 use Rattle.std.proofs.lemmas.Bool.{le-leb, cond_both, cond-true, cond-false}
 use Rattle.std.proofs.lemmas.Bool.Decides.{nat_tests}
@@ -23,8 +23,6 @@ use Rattle.dc_base.specs.declared.events.Header.{Header}
 use Rattle.dc_base.specs.declared.events.Event.{Event}
 use Rattle.dc_base.specs.declared.events.Event.TheVariants.{Step}
 use Rattle.dc_base.specs.declared.events.Line.{Line}
-use Rattle.dc_base.specs.declared.events.Line.TheVariants as line
-use Rattle.pdcp_tx.specs.declared.tx.TxErr.TheVariants as refused
 use Rattle.transcript.specs.Transcript.{Entry}
 use Rattle.transcript.specs.Content.{content, link, mt_ctl, tm_ctl, place_taken}
 use Rattle.transcript.specs.Claims.{is_ordered, is_tunnel, step_answer, tunnel_answer}

@@ -1,5 +1,5 @@
 -- What a node holds of a bearer, and of all its bearers.
-use Rattle.std.specs.Prelude.{ℕ, List, [], Option, Some, None, replicate, slice_index_or, slice_set}
+use Rattle.std.specs.Prelude.{ℕ, List, [], Option, None, replicate, slice_index_or, slice_set}
 use Rattle.pdcp_tx.specs.Sender.{Sender}
 use Rattle.pdcp_rx.specs.declared.entity.RxParts.{RxParts}
 use Rattle.transcript.specs.Bearers.{Established}

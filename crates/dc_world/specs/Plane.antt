@@ -1,6 +1,6 @@
 -- The rules of the user plane (TS 38.323, 5.2): what a node does with a payload that is submitted to a bearer, and
 -- with a flight that comes on its leg. Master and terminal have the same ones; the direction tells them apart.
-use Rattle.std.specs.Prelude.{ℕ, ◌+◌, ◌-◌, ◌^◌, nat_lt, ◌==◌, ◌&&◌, if◌then◌else◌, List, [], ◌∷◌, ◌++◌, length, map, slice_get, Bool, true, false, Option, Some, None, Result, Ok, Err}
+use Rattle.std.specs.Prelude.{ℕ, ◌+◌, ◌-◌, ◌^◌, nat_lt, ◌==◌, ◌&&◌, if◌then◌else◌, List, [], ◌∷◌, ◌++◌, length, map, slice_get, Bool, false, Option, Some, None, Result, Ok, Err}
 use Rattle.dc_base.specs.Count.{sn, count_for, window}
 use Rattle.dc_base.specs.declared.nodes.Dir.{Dir}
 use Rattle.dc_base.specs.declared.nodes.Dir.TheVariants.{Ul, Dl}
@@ -21,8 +21,6 @@ use Rattle.pdcp_pdu.specs.DataPdu.{data_pdu}
 use Rattle.pdcp_pdu.specs.Pdu.{Content, sdu, report, decoded}
 use Rattle.pdcp_pdu.specs.StatusReport.{report_pdu}
 use Rattle.pdcp_pdu.specs.declared.pdu.PduErr.{PduErr}
-use Rattle.pdcp_rx.specs.declared.entity.Put.{Put}
-use Rattle.pdcp_rx.specs.declared.entity.RxParts.{RxParts}
 use Rattle.pdcp_rx.specs.Entries.{counts_of}
 use Rattle.pdcp_rx.specs.Receiver.{put, handed_of}
 use Rattle.pdcp_tx.specs.Sender.{Sender, low}

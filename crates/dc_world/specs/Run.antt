@@ -1,6 +1,5 @@
 -- A run of the nodes and the links between them, one event after another.
-use Rattle.std.specs.Prelude.{ℕ, ◌+◌, ◌-◌, ◌^◌, ◌<◌, ◌≤◌, ◌&&◌, nat_lt, not, if◌then◌else◌, Bool, true, false, List, [], ◌∷◌, ◌++◌, length, slice_get, sum_by, count_by, Option, Some, None, ⊤}
-use Rattle.std.specs.List.{flat_map}
+use Rattle.std.specs.Prelude.{ℕ, ◌-◌, ◌^◌, ◌<◌, ◌≤◌, ◌&&◌, nat_lt, if◌then◌else◌, Bool, true, false, List, [], ◌∷◌, ◌++◌, length, slice_get, sum_by, count_by, Option, Some, None, ⊤}
 use Rattle.dc_base.specs.declared.nodes.Class.{Class}
 use Rattle.dc_base.specs.declared.nodes.Class.TheVariants.{Ctl, Air}
 use Rattle.dc_base.specs.declared.nodes.Dir.{Dir}
