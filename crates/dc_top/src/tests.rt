@@ -270,3 +270,43 @@ fn a_write_that_fails_stops_the_reading(rt: HostRuntime) -> Result<(), Fail> {
     assert!(rt; left.unread >= 900_000);
     Ok(())
 }
+
+#[test]
+fn a_recovery_and_a_report(rt: HostRuntime) -> Result<(), Fail> {
+    let rows: [(&[u8], &[&str]); 2] = [
+        (
+            b"bearer 1 12 0 mm 0 0\ndrain\ndl 1 aa\ndl 1 bb\nstep mt.air 0\nrecover 1\ndrain\n",
+            &[
+                "- up t 1 dl 0 aa",
+                "- send mt.ctl recov 1",
+                "- send mt.air pdu 1 1 2 0 8000aa",
+                "- send mt.air pdu 1 1 3 1 8001bb",
+                "- send tm.ctl recovd 1",
+                "- done",
+                "- up t 1 dl 1 bb",
+                "- send tm.air ack 1 1 2",
+                "- freed 1 dl 1",
+                "- freed 1 dl 2",
+            ],
+        ),
+        (
+            b"bearer 1 12 0 mm 0 0\ndrain\nul 1 aa\ndrain\nreport m 1\ndrain\n",
+            &[
+                "- send tm.air pdu 1 1 0 0 8000aa",
+                "- up m 1 ul 0 aa",
+                "- send mt.air ack 1 1 0",
+                "- send mt.air ctl 1 1 0 0000000001",
+                "- freed 1 ul 1",
+                "- send tm.air ack 1 1 0",
+            ],
+        ),
+    ];
+    for (script, wanted) in rows {
+        let text = String::from_utf8(run_lines(rt.alloc(), script)?.out)?;
+        let mut lines = text.lines();
+        for line in wanted {
+            assert!(rt; lines.any(|found| found == *line));
+        }
+    }
+    Ok(())
+}
