@@ -65,6 +65,7 @@ numbered_as h d e payload (Ok (tx, count)) = (
 numbered_as h d e payload (Err refused.Exhausted) = (e, (answer.No Exhausted, []))
 numbered_as h d e payload (Err _) = (e, (answer.No Full, []))
 
+-- a bearer takes a submission, with the next COUNT of its sending entity
 abbrev pub submitted_to : Header → Dir → Entities → List ℕ → Entities × Outcome
 submitted_to h d e payload = numbered_as h d e payload (taken e.tx payload)
 

@@ -149,12 +149,13 @@ abbrev pub is_event : Line → Bool
 is_event (line.Event e) = true
 is_event _ = false
 
--- how many events, flights and octets of flights some lines have
+-- a number of events, of flights and of octets of flights
 pub record Counted : Type 0 where
   pub events : ℕ
   pub flights : ℕ
   pub octets : ℕ
 
+-- how many of them some lines have
 abbrev pub counted : List Line → Counted
 counted lines = record {
   events = count_by is_event lines;

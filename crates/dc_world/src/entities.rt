@@ -4,19 +4,18 @@ ghost use Rattle.std.specs.Prelude.{◌≡◌, ◌+◌, ◌<◌, ◌≤◌, ◌+
 ghost use Rattle.dc_base.specs.Count.{window, modulus, count_for};
 ghost use Rattle.pdcp_pdu.specs.DataPdu.{IsPayload};
 ghost use Rattle.pdcp_pdu.specs.Pdu.{decoded, sdu, report};
-ghost use Rattle.pdcp_rx.specs.Receiver.{handed_of};
 ghost use Rattle.pdcp_tx.specs.Sending.{taken, reported, IsRefused};
 ghost use Rattle.dc_world.specs.Entities.{fresh};
 ghost use Rattle.dc_world.specs.Plane.{leg, up_line, data_flight, submitted_to, ack_line, sdu_taken, with_confirmed, pdu_taken, confirmed_at, ack_taken, flight_taken, is_behind, reports, resends, recovers};
 
 use crate::ciphering::Ciphering;
-use crate::plane::{Outcome, freed_lines, leg, other, refused, up_lines};
+use crate::plane::{Outcome, freed_lines, leg, other, put_lines, refused};
 use dc_base::{
     Answer, Dir, DrbId, Flight, Gen, Line, Memory, Octets, Refusal, Seq, SnLen, Tag, infer, sn_of,
     window,
 };
 use pdcp_pdu::{Pdu, decode, encode_data};
-use pdcp_rx::{Put, Rx};
+use pdcp_rx::Rx;
 use pdcp_tx::{Tx, TxErr};
 use std::alloc::Global;
 use std::marker::Model;
@@ -46,16 +45,6 @@ impl Model for PdcpEntities {
 
     // What is kept was submitted, so it can be sent again.
     ghost invariant = { λ a. (a.tx.n ≡ a.n) × (a.rx.n ≡ a.n) × All (λ x. IsPayload x.1) a.tx.kept };
-}
-
-// The lines of what became of a received payload.
-fn put_lines(alloc: Global, id: DrbId, dir: Dir, put: Put) -> Result<Seq<Line>, Memory>
-    ensures { IfOk result (λ lines. lines ≡ map (up_line id dir) (handed_of put)) }
-{
-    match put {
-        Put::Stored { handed } => up_lines(alloc, id, dir, handed),
-        Put::Old { .. } | Put::Again => Ok(Seq::new(alloc)),
-    }
 }
 
 impl PdcpEntities {

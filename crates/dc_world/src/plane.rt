@@ -1,6 +1,7 @@
 //! The lines and flights of the user plane (TS 38.323, 5.2).
 
 ghost use Rattle.std.specs.Prelude.{◌≡◌, ◌<◌, [], map, IfOk};
+ghost use Rattle.pdcp_rx.specs.Receiver.{handed_of};
 ghost use Rattle.transcript.specs.Text.{is_data};
 ghost use Rattle.transcript.specs.Claims.{receiver};
 ghost use Rattle.dc_world.specs.Plane.{leg, other, up_line, freed_lines, identity_of};
@@ -8,6 +9,7 @@ ghost use Rattle.dc_world.specs.Plane.{leg, other, up_line, freed_lines, identit
 use dc_base::{
     Answer, Class, Dir, DrbId, Flight, Line, LinkId, Memory, Node, Note, Octets, Refusal, Seq,
 };
+use pdcp_rx::Put;
 use std::alloc::Global;
 
 /// An answer with the lines after it.
@@ -118,5 +120,15 @@ pub fn identity_of(flight: &Flight) -> usize
     match flight {
         Flight::Air { id, .. } | Flight::Ack { id, .. } => id.get() as usize,
         _ => 0,
+    }
+}
+
+/// The lines of what became of a received payload.
+pub fn put_lines(alloc: Global, id: DrbId, dir: Dir, put: Put) -> Result<Seq<Line>, Memory>
+    ensures { IfOk result (λ lines. lines ≡ map (up_line id dir) (handed_of put)) }
+{
+    match put {
+        Put::Stored { handed } => up_lines(alloc, id, dir, handed),
+        Put::Old { .. } | Put::Again => Ok(Seq::new(alloc)),
     }
 }

@@ -9,8 +9,8 @@ use Rattle.nr_u.specs.Frames.{is_set}
 abbrev pub number_of : ℕ → ℕ → ℕ → ℕ
 number_of a b c = from_be_bytes w32 (0 ∷ a ∷ b ∷ c ∷ [])
 
--- the fault of the first check that fails, of two
 infixr 20 ◌else◌
+-- the fault of the first check that fails, of two
 abbrev pub ◌else◌ : Option NruErr → Option NruErr → Option NruErr
 (Some e) else other = Some e
 None else other = other

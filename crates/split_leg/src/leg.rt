@@ -69,8 +69,8 @@ impl Pdu {
     }
 }
 
-// A leg. `done`: none of the first so many PDUs is outstanding. `firsts`: the number of the first PDU of
-// each COUNT.
+/// A leg. `done`: none of the first so many PDUs is outstanding. `firsts`: the number of the first PDU of
+/// each COUNT.
 #[derive(Debug, Drop)]
 pub struct Leg {
     pdus: Vec<Pdu>,

@@ -185,11 +185,12 @@ abbrev pub is_opening : Option OpenCommand → Established → Bool
 is_opening (Some (change g)) b = g == b.g
 is_opening _ b = false
 
--- the bearer of an identity at the master: the latest, once its command is done
+-- the bearer, unless its own command is still open
 abbrev pub unless_opening : Option OpenCommand → Option Established → Option Established
 unless_opening g None = None
 unless_opening g (Some b) = if is_opening g b then None else Some b
 
+-- the bearer of an identity at the master: the latest, once its command is done
 abbrev pub at_master : ℕ → List Entry → Option Established
 at_master id t = unless_opening (open_command t) (latest id (established t))
 
@@ -199,6 +200,7 @@ has_after id has (line.Note (SetNote i g)) = if i == id then true else has
 has_after id has (line.Note (UnsetNote i)) = if i == id then false else has
 has_after id has _ = has
 
+-- and after all lines
 abbrev pub is_set : ℕ → List Entry → Bool
 is_set id t = fold (has_after id) false (flat_map (λ e. e.lines) t)
 
