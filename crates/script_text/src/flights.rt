@@ -4,10 +4,11 @@ ghost use Rattle.std.specs.Prelude.{◌≡◌, ◌++◌, ◌∷◌, [], OnOk, co
 ghost use Rattle.std.specs.Fmt.{decimal};
 ghost use Rattle.transcript.specs.Text.{is_data, flight_text, rec_text, plan_text, pair_text};
 ghost use Rattle.transcript.specs.Words.{spaced, octets_or_dash};
+ghost use Rattle.dc_base.specs.declared.flights.Flight.TheVariants.{Air};
 
 use crate::fields::{Field, write_pair, write_plan, write_spaced};
 use crate::words::write_text;
-use dc_base::{DrbId, Flight, Gen, Memory, Octets, Plan, Rec, Seq, StatusTransfer};
+use dc_base::{DrbId, Flight, Gen, Memory, Octets, Plan, Rec, Seq, StatusTransfer, Tag};
 
 /// Adds a flight.
 pub fn write_flight(out: &mut Octets, flight: &Flight) -> Result<(), Memory>
@@ -20,33 +21,8 @@ pub fn write_flight(out: &mut Octets, flight: &Flight) -> Result<(), Memory>
             num,
             tag,
             pdu,
-        } => {
-            let (id, g, num) = (Field::Id(*id), Field::Number(*g), Field::Number(*num));
-            if is_data(pdu.as_slice()) {
-                write_spaced(
-                    out,
-                    &[
-                        Field::Text("pdu"),
-                        id,
-                        g,
-                        num,
-                        Field::Tag(*tag),
-                        Field::Payload(pdu),
-                    ],
-                )
-            } else {
-                write_spaced(out, &[Field::Text("ctl"), id, g, num, Field::Payload(pdu)])
-            }
-        }
-        Flight::Ack { id, g, num } => write_spaced(
-            out,
-            &[
-                Field::Text("ack"),
-                Field::Id(*id),
-                Field::Number(*g),
-                Field::Number(*num),
-            ],
-        ),
+        } => write_air(out, *id, *g, *num, *tag, pdu),
+        Flight::Ack { id, g, num } => write_counted(out, "ack", *id, *g, *num),
         Flight::Tun { tag, packet } => {
             write_spaced(
                 out,
@@ -68,17 +44,53 @@ pub fn write_flight(out: &mut Octets, flight: &Flight) -> Result<(), Memory>
                 &[Field::Text("end"), Field::Id(*id), Field::Number(*g)],
             )
         }
-        Flight::Told { id, g, count } => write_spaced(
-            out,
-            &[
-                Field::Text("told"),
-                Field::Id(*id),
-                Field::Number(*g),
-                Field::Number(*count),
-            ],
-        ),
+        Flight::Told { id, g, count } => write_counted(out, "told", *id, *g, *count),
         Flight::Ctl(rec) => write_record(out, rec),
     }
+}
+
+/// Adds a PDCP PDU on the air; only a data PDU has a tag.
+fn write_air(
+    out: &mut Octets,
+    id: DrbId,
+    g: Gen,
+    num: u32,
+    tag: Tag,
+    pdu: &Octets,
+) -> Result<(), Memory>
+    ensures { OnOk result (out.new ≡ out.old ++ flight_text (Air id g num tag pdu.now)) }
+{
+    let (id, g, num) = (Field::Id(id), Field::Number(g), Field::Number(num));
+    if is_data(pdu.as_slice()) {
+        write_spaced(
+            out,
+            &[
+                Field::Text("pdu"),
+                id,
+                g,
+                num,
+                Field::Tag(tag),
+                Field::Payload(pdu),
+            ],
+        )
+    } else {
+        write_spaced(out, &[Field::Text("ctl"), id, g, num, Field::Payload(pdu)])
+    }
+}
+
+/// Adds a word, a bearer, a generation of it, and a number or a count in that generation.
+fn write_counted(out: &mut Octets, word: &str, id: DrbId, g: Gen, count: u32) -> Result<(), Memory>
+    ensures { OnOk result (out.new ≡ out.old ++ spaced (word.now ∷ decimal id ∷ decimal g ∷ decimal count ∷ [])) }
+{
+    write_spaced(
+        out,
+        &[
+            Field::Text(word),
+            Field::Id(id),
+            Field::Number(g),
+            Field::Number(count),
+        ],
+    )
 }
 
 /// Whether a PDCP PDU is a data PDU (TS 38.323, 6.3.7).

@@ -3,13 +3,19 @@
 ghost use Rattle.std.specs.Prelude.{◌≡◌, ◌++◌, ◌∷◌, [], OnOk, IfOk};
 ghost use Rattle.std.specs.Fmt.{decimal};
 ghost use Rattle.transcript.specs.Text.{header_text, event_text, answer_text, note_text, line_text};
-ghost use Rattle.transcript.specs.Words.{spaced, link_word};
+ghost use Rattle.transcript.specs.Words.{spaced, link_word, node_word};
+ghost use Rattle.dc_base.specs.declared.events.Event.TheVariants.{Bearer};
 ghost use Rattle.dc_base.specs.declared.events.Line.TheVariants.{Send};
+ghost use Rattle.dc_base.specs.declared.events.Note.TheVariants.{Up};
+ghost use Rattle.script_text.specs.Fields.{field_text};
 
-use crate::fields::{Field, write_spaced};
+use crate::fields::{Field, write_field, write_spaced};
 use crate::flights::write_flight;
 use crate::words::{write_link, write_text};
-use dc_base::{Answer, Event, Flight, Header, Line, LinkId, Memory, Note, Octets};
+use dc_base::{
+    Answer, Dir, DrbId, Event, Flight, Gen, Header, Line, LinkId, Memory, Node, Note, Octets,
+    Shape, SnLen,
+};
 use std::alloc::Global;
 
 /// The header as the first line of a script and of a transcript, without its end. The only error is want of memory.
@@ -67,23 +73,9 @@ fn write_event(out: &mut Octets, event: &Event) -> Result<(), Memory>
             shape,
             threshold,
             policy,
-        } => write_spaced(
-            out,
-            &[
-                Field::Text("bearer"),
-                Field::Id(*id),
-                Field::Sn(*n),
-                Field::Number(*first),
-                Field::Shape(*shape),
-                Field::Number(*threshold),
-                Field::Number(u32::from(*policy)),
-            ],
-        ),
+        } => write_bearer(out, *id, *n, *first, *shape, *threshold, *policy),
         Event::Reshape { id, shape } => {
-            write_spaced(
-                out,
-                &[Field::Text("shape"), Field::Id(*id), Field::Shape(*shape)],
-            )
+            write_with_two(out, "shape", &Field::Id(*id), &Field::Shape(*shape))
         }
         Event::Remove { id } => write_spaced(out, &[Field::Text("drop"), Field::Id(*id)]),
         Event::Add { node } => write_spaced(out, &[Field::Text("add"), Field::Node(*node)]),
@@ -91,30 +83,12 @@ fn write_event(out: &mut Octets, event: &Event) -> Result<(), Memory>
         Event::Release => write_text(out, "release"),
         Event::RekeySecond => write_text(out, "rekey s"),
         Event::RekeyMaster { root } => {
-            write_spaced(
-                out,
-                &[Field::Text("rekey"), Field::Text("m"), Field::Root(root)],
-            )
+            write_with_two(out, "rekey", &Field::Text("m"), &Field::Root(root))
         }
         Event::Recover { id } => write_spaced(out, &[Field::Text("recover"), Field::Id(*id)]),
-        Event::Report { node, id } => {
-            write_spaced(
-                out,
-                &[Field::Text("report"), Field::Node(*node), Field::Id(*id)],
-            )
-        }
-        Event::Deny { node, on } => {
-            write_spaced(
-                out,
-                &[Field::Text("deny"), Field::Node(*node), Field::State(*on)],
-            )
-        }
-        Event::Ask { node, what } => {
-            write_spaced(
-                out,
-                &[Field::Text("want"), Field::Node(*node), Field::Want(*what)],
-            )
-        }
+        Event::Report { node, id } => write_with_node(out, "report", *node, &Field::Id(*id)),
+        Event::Deny { node, on } => write_with_node(out, "deny", *node, &Field::State(*on)),
+        Event::Ask { node, what } => write_with_node(out, "want", *node, &Field::Want(*what)),
         Event::ScgFail => write_text(out, "scgfail"),
         Event::Submit { id, dir, sdu } => {
             write_spaced(
@@ -128,14 +102,55 @@ fn write_event(out: &mut Octets, event: &Event) -> Result<(), Memory>
     }
 }
 
+/// Adds a bearer: what it is set up with.
+fn write_bearer(
+    out: &mut Octets,
+    id: DrbId,
+    n: SnLen,
+    first: u32,
+    shape: Shape,
+    threshold: u32,
+    policy: u8,
+) -> Result<(), Memory>
+    ensures { OnOk result (out.new ≡ out.old ++ event_text (Bearer id n first shape threshold policy)) }
+{
+    write_spaced(
+        out,
+        &[
+            Field::Text("bearer"),
+            Field::Id(id),
+            Field::Sn(n),
+            Field::Number(first),
+            Field::Shape(shape),
+            Field::Number(threshold),
+            Field::Number(u32::from(policy)),
+        ],
+    )
+}
+
+/// Adds a word and two fields.
+fn write_with_two(out: &mut Octets, word: &str, first: &Field, second: &Field) -> Result<(), Memory>
+    ensures { OnOk result (out.new ≡ out.old ++ spaced (word.now ∷ field_text first.now ∷ field_text second.now ∷ [])) }
+{
+    write_text(out, word)?;
+    out.push(b' ')?;
+    write_field(out, first)?;
+    out.push(b' ')?;
+    write_field(out, second)
+}
+
+/// Adds a word, a node and a field.
+fn write_with_node(out: &mut Octets, word: &str, node: Node, field: &Field) -> Result<(), Memory>
+    ensures { OnOk result (out.new ≡ out.old ++ spaced (word.now ∷ node_word node ∷ field_text field.now ∷ [])) }
+{
+    write_with_two(out, word, &Field::Node(node), field)
+}
+
 /// Adds what happens to a flight: the word, the link, the place on it.
 fn write_fate(out: &mut Octets, word: &str, link: LinkId, index: u32) -> Result<(), Memory>
     ensures { OnOk result (out.new ≡ out.old ++ spaced (word.now ∷ link_word link ∷ decimal index ∷ [])) }
 {
-    write_spaced(
-        out,
-        &[Field::Text(word), Field::Link(link), Field::Number(index)],
-    )
+    write_with_two(out, word, &Field::Link(link), &Field::Number(index))
 }
 
 /// Adds an answer.
@@ -154,42 +169,11 @@ fn write_note(out: &mut Octets, note: &Note) -> Result<(), Memory>
 {
     match note {
         Note::Begin { what } => write_spaced(out, &[Field::Text("begin"), Field::Want(*what)]),
-        Note::Join { node, g } => {
-            write_spaced(
-                out,
-                &[Field::Text("join"), Field::Node(*node), Field::Number(*g)],
-            )
-        }
-        Note::Leave { node, g } => {
-            write_spaced(
-                out,
-                &[Field::Text("leave"), Field::Node(*node), Field::Number(*g)],
-            )
-        }
-        Note::Give { node, id, g } => write_spaced(
-            out,
-            &[
-                Field::Text("give"),
-                Field::Node(*node),
-                Field::Id(*id),
-                Field::Number(*g),
-            ],
-        ),
-        Note::Own { node, id, g } => write_spaced(
-            out,
-            &[
-                Field::Text("own"),
-                Field::Node(*node),
-                Field::Id(*id),
-                Field::Number(*g),
-            ],
-        ),
-        Note::Set { id, g } => {
-            write_spaced(
-                out,
-                &[Field::Text("set"), Field::Id(*id), Field::Number(*g)],
-            )
-        }
+        Note::Join { node, g } => write_with_node(out, "join", *node, &Field::Number(*g)),
+        Note::Leave { node, g } => write_with_node(out, "leave", *node, &Field::Number(*g)),
+        Note::Give { node, id, g } => write_held(out, "give", *node, *id, *g),
+        Note::Own { node, id, g } => write_held(out, "own", *node, *id, *g),
+        Note::Set { id, g } => write_with_two(out, "set", &Field::Id(*id), &Field::Number(*g)),
         Note::Unset { id } => write_spaced(out, &[Field::Text("unset"), Field::Id(*id)]),
         Note::Up {
             node,
@@ -197,17 +181,7 @@ fn write_note(out: &mut Octets, note: &Note) -> Result<(), Memory>
             dir,
             count,
             sdu,
-        } => write_spaced(
-            out,
-            &[
-                Field::Text("up"),
-                Field::Node(*node),
-                Field::Id(*id),
-                Field::Dir(*dir),
-                Field::Number(*count),
-                Field::Payload(sdu),
-            ],
-        ),
+        } => write_up(out, *node, *id, *dir, *count, sdu),
         Note::Freed { id, dir, count } => write_spaced(
             out,
             &[
@@ -221,18 +195,50 @@ fn write_note(out: &mut Octets, note: &Note) -> Result<(), Memory>
             write_spaced(out, &[Field::Text("confirmed"), Field::Node(*node)])
         }
         Note::Refused { node, word } => {
-            write_spaced(
-                out,
-                &[
-                    Field::Text("refused"),
-                    Field::Node(*node),
-                    Field::Cause(*word),
-                ],
-            )
+            write_with_node(out, "refused", *node, &Field::Cause(*word))
         }
         Note::Done => write_text(out, "done"),
         Note::Rejected => write_text(out, "rejected"),
     }
+}
+
+/// Adds what a node holds of a bearer from now on: the word, the node, the bearer, the generation.
+fn write_held(out: &mut Octets, word: &str, node: Node, id: DrbId, g: Gen) -> Result<(), Memory>
+    ensures { OnOk result (out.new ≡ out.old ++ spaced (word.now ∷ node_word node ∷ decimal id ∷ decimal g ∷ [])) }
+{
+    write_spaced(
+        out,
+        &[
+            Field::Text(word),
+            Field::Node(node),
+            Field::Id(id),
+            Field::Number(g),
+        ],
+    )
+}
+
+/// Adds an SDU that is delivered.
+fn write_up(
+    out: &mut Octets,
+    node: Node,
+    id: DrbId,
+    dir: Dir,
+    count: u32,
+    sdu: &Octets,
+) -> Result<(), Memory>
+    ensures { OnOk result (out.new ≡ out.old ++ note_text (Up node id dir count sdu.now)) }
+{
+    write_spaced(
+        out,
+        &[
+            Field::Text("up"),
+            Field::Node(node),
+            Field::Id(id),
+            Field::Dir(dir),
+            Field::Number(count),
+            Field::Payload(sdu),
+        ],
+    )
 }
 
 /// Adds a flight that is put at the end of a link.

@@ -26,6 +26,11 @@ fn shape(at_second: bool, legs: LegSet, dup: bool) -> Shape {
     }
 }
 
+/// A record that is put at the end of a link.
+fn record(link: LinkId, rec: Rec) -> Line {
+    Line::Send(link, Flight::Ctl(rec))
+}
+
 /// A plan of generation `g` that sets bearer 1 with 12-bit sequence numbers.
 fn plan(
     alloc: Global,
@@ -59,10 +64,9 @@ fn are_written(rt: &impl Abort, alloc: Global, rows: &[(Line, &str)]) -> Result<
 }
 
 #[test]
-fn events_answers_and_notes_are_written(rt: HostRuntime) -> Result<(), Fail> {
+fn events_of_a_bearer_are_written(rt: HostRuntime) -> Result<(), Fail> {
     let id = first_bearer()?;
     let sdu = Octets::from_slice(rt.alloc(), b"hi")?;
-    let given = Octets::from_slice(rt.alloc(), b"hi")?;
     let bearer = Event::Bearer {
         id,
         n: SnLen::S18,
@@ -82,6 +86,13 @@ fn events_answers_and_notes_are_written(rt: HostRuntime) -> Result<(), Fail> {
             }),
             "dl 1 6869",
         ),
+    ];
+    are_written(&rt, rt.alloc(), &rows)
+}
+
+#[test]
+fn events_at_nodes_and_answers_are_written(rt: HostRuntime) -> Result<(), Fail> {
+    let rows = [
         (
             Line::Event(Event::Step {
                 link: link(Node::M, Node::T, Class::Air),
@@ -105,6 +116,15 @@ fn events_answers_and_notes_are_written(rt: HostRuntime) -> Result<(), Fail> {
         ),
         (Line::Answer(Answer::Ok), "= ok"),
         (Line::Answer(Answer::No(Refusal::NoFlight)), "= no noflight"),
+    ];
+    are_written(&rt, rt.alloc(), &rows)
+}
+
+#[test]
+fn notes_are_written(rt: HostRuntime) -> Result<(), Fail> {
+    let id = first_bearer()?;
+    let sdu = Octets::from_slice(rt.alloc(), b"hi")?;
+    let rows = [
         (
             Line::Note(Note::Own {
                 node: Node::M,
@@ -119,7 +139,7 @@ fn events_answers_and_notes_are_written(rt: HostRuntime) -> Result<(), Fail> {
                 id,
                 dir: Dir::Dl,
                 count: 0,
-                sdu: given,
+                sdu,
             }),
             "- up t 1 dl 0 6869",
         ),
@@ -144,14 +164,10 @@ fn events_answers_and_notes_are_written(rt: HostRuntime) -> Result<(), Fail> {
 }
 
 #[test]
-fn flights_are_written(rt: HostRuntime) -> Result<(), Fail> {
+fn pdus_are_written(rt: HostRuntime) -> Result<(), Fail> {
     let id = first_bearer()?;
     let pdu = Octets::from_slice(rt.alloc(), &[0x80, 0, 0x68, 0x69])?;
     let report = Octets::from_slice(rt.alloc(), &[0, 0, 0, 0, 2])?;
-    let packet = Octets::from_slice(
-        rt.alloc(),
-        &[0x30, 0xff, 0, 5, 0, 0, 1, 0x80, 0, 0, 0, 0, 2],
-    )?;
     let rows = [
         (
             Line::Send(
@@ -179,6 +195,18 @@ fn flights_are_written(rt: HostRuntime) -> Result<(), Fail> {
             ),
             "- send ta.air ctl 1 3 0 0000000002",
         ),
+    ];
+    are_written(&rt, rt.alloc(), &rows)
+}
+
+#[test]
+fn packets_and_acks_are_written(rt: HostRuntime) -> Result<(), Fail> {
+    let id = first_bearer()?;
+    let packet = Octets::from_slice(
+        rt.alloc(),
+        &[0x30, 0xff, 0, 5, 0, 0, 1, 0x80, 0, 0, 0, 0, 2],
+    )?;
+    let rows = [
         (
             Line::Send(
                 link(Node::A, Node::M, Class::Tun),
@@ -201,8 +229,7 @@ fn flights_are_written(rt: HostRuntime) -> Result<(), Fail> {
 }
 
 #[test]
-fn records_are_written(rt: HostRuntime) -> Result<(), Fail> {
-    let id = first_bearer()?;
+fn records_with_plans_are_written(rt: HostRuntime) -> Result<(), Fail> {
     let set_up = plan(
         rt.alloc(),
         1,
@@ -219,6 +246,34 @@ fn records_are_written(rt: HostRuntime) -> Result<(), Fail> {
         Side::Second(0),
         Some(Node::M),
     )?;
+    let rows = [
+        (
+            record(
+                link(Node::M, Node::T, Class::Ctl),
+                Rec::Reconf {
+                    plan: set_up,
+                    key: [0; 32],
+                },
+            ),
+            "- send mt.ctl reconf 1 - 1/12/0/mm/0/0/m0/-",
+        ),
+        (
+            record(
+                link(Node::M, Node::A, Class::Ctl),
+                Rec::Modreq {
+                    plan: moved,
+                    key: [0; 32],
+                },
+            ),
+            "- send ma.ctl modreq 3 a 1/12/0/ss/0/0/s0.0/m",
+        ),
+    ];
+    are_written(&rt, rt.alloc(), &rows)
+}
+
+#[test]
+fn records_without_plans_are_written(rt: HostRuntime) -> Result<(), Fail> {
+    let id = first_bearer()?;
     let bits = Octets::from_slice(rt.alloc(), &[0x80])?;
     let mut failed = Seq::new(rt.alloc());
     failed.push((id, 3))?;
@@ -235,37 +290,11 @@ fn records_are_written(rt: HostRuntime) -> Result<(), Fail> {
     };
     let rows = [
         (
-            Line::Send(
-                link(Node::M, Node::T, Class::Ctl),
-                Flight::Ctl(Rec::Reconf {
-                    plan: set_up,
-                    key: [0; 32],
-                }),
-            ),
-            "- send mt.ctl reconf 1 - 1/12/0/mm/0/0/m0/-",
-        ),
-        (
-            Line::Send(
-                down,
-                Flight::Ctl(Rec::Modreq {
-                    plan: moved,
-                    key: [0; 32],
-                }),
-            ),
-            "- send ma.ctl modreq 3 a 1/12/0/ss/0/0/s0.0/m",
-        ),
-        (
-            Line::Send(down, Flight::Ctl(Rec::Snst { status })),
+            record(down, Rec::Snst { status }),
             "- send ma.ctl snst 3 1 0 80 2",
         ),
-        (
-            Line::Send(up, Flight::Ctl(Rec::Scgf { failed })),
-            "- send tm.ctl scgf 1/3",
-        ),
-        (
-            Line::Send(up, Flight::Ctl(Rec::Rcomp { g: 1 })),
-            "- send tm.ctl rcomp 1",
-        ),
+        (record(up, Rec::Scgf { failed }), "- send tm.ctl scgf 1/3"),
+        (record(up, Rec::Rcomp { g: 1 }), "- send tm.ctl rcomp 1"),
     ];
     are_written(&rt, rt.alloc(), &rows)
 }
