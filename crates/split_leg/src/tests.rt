@@ -5,10 +5,12 @@ ghost use Rattle.split_leg.specs.Routing.{chosen};
 
 use super::*;
 use dc_base::{Cell, LegSet, Octets, Shape};
+use std::alloc::Global;
+use std::process::Abort;
 use std::test::Fail;
 
 #[test]
-fn choices_of_stored_policies(rt: HostRuntime) -> Result<(), Fail> {
+fn choices_and_routes_of_stored_policies(rt: HostRuntime) -> Result<(), Fail> {
     let even = Box::new(
         rt.alloc(),
         |mcg: u64, scg: u64| -> Choice
@@ -46,46 +48,37 @@ fn choices_of_stored_policies(rt: HostRuntime) -> Result<(), Fail> {
     assert_eq!(rt; policies.choose(0, 5, 4), Choice::Scg);
     assert_eq!(rt; policies.choose(1, 10, 100_010), Choice::Scg);
     assert_eq!(rt; policies.choose(1, 10, 100_011), Choice::Mcg);
-
-    Ok(())
+    routes_of_a_split_bearer(&rt, rt.alloc(), &policies)
 }
 
-#[test]
-fn routes_of_a_split_bearer(rt: HostRuntime) -> Result<(), Fail> {
-    let even = Box::new(
-        rt.alloc(),
-        |mcg: u64, scg: u64| -> Choice
-            requires { (mcg < 2 ^ 48) × (scg < 2 ^ 48) }
-            ensures { result ≡ chosen (record { plus = 0; minus = 1 }) mcg scg }
-        {
-            if scg + 1 <= mcg {
-                Choice::Scg
-            } else {
-                Choice::Mcg
-            }
-        },
-    )?;
-    let mut list = Vec::new(rt.alloc());
-    list.push(Policy::new(Octets::new(rt.alloc()), 0, 1, even))
-        .map_err(|_| "memory")?;
-    let policies = Policies::new(list);
+/// The routes by the first of the policies.
+fn routes_of_a_split_bearer(
+    rt: &impl Abort,
+    alloc: Global,
+    policies: &Policies,
+) -> Result<(), Fail> {
+    assert!(rt; policies.len() > 0);
     let shape = Shape {
         at_second: false,
         legs: LegSet::Split(Cell::Mcg),
         dup: false,
     };
-    let mut legs = Legs::new(rt.alloc(), shape, 10, 0);
-    assert_eq!(rt; legs.route(&policies, true), Route::One(Cell::Mcg));
+    let mut legs = Legs::new(alloc, shape, 10, 0);
+    assert_eq!(rt; legs.route(policies, true), Route::One(Cell::Mcg));
     legs.sent(Cell::Mcg, Some(0), 6)?;
-    assert_eq!(rt; legs.route(&policies, true), Route::One(Cell::Mcg));
+    assert_eq!(rt; legs.route(policies, true), Route::One(Cell::Mcg));
     legs.sent(Cell::Mcg, Some(1), 6)?;
-    assert_eq!(rt; legs.route(&policies, true), Route::One(Cell::Scg));
+    assert_eq!(rt; legs.route(policies, true), Route::One(Cell::Scg));
     legs.sent(Cell::Scg, Some(2), 6)?;
-    assert_eq!(rt; legs.route(&policies, true), Route::One(Cell::Scg));
+    assert_eq!(rt; legs.route(policies, true), Route::One(Cell::Scg));
     legs.sent(Cell::Scg, Some(3), 6)?;
-    assert_eq!(rt; legs.route(&policies, true), Route::One(Cell::Mcg));
-    assert_eq!(rt; legs.route(&policies, false), Route::One(Cell::Mcg));
+    assert_eq!(rt; legs.route(policies, true), Route::One(Cell::Mcg));
+    assert_eq!(rt; legs.route(policies, false), Route::One(Cell::Mcg));
     Ok(())
+}
+
+fn sent_as(num: u32, repeat: bool) -> SentAs {
+    SentAs { num, repeat }
 }
 
 #[test]
@@ -97,36 +90,12 @@ fn repeats_acks_and_confirmed_counts(rt: HostRuntime) -> Result<(), Fail> {
     };
     let mut legs = Legs::new(rt.alloc(), shape, 0, 0);
     legs.begin_send();
-    assert_eq!(rt;
-        legs.sent(Cell::Mcg, Some(7), 6),
-        Ok(SentAs {
-            num: 0,
-            repeat: false
-        })
-    );
-    assert_eq!(rt;
-        legs.sent(Cell::Scg, Some(7), 6),
-        Ok(SentAs {
-            num: 0,
-            repeat: false
-        })
-    );
+    assert_eq!(rt; legs.sent(Cell::Mcg, Some(7), 6), Ok(sent_as(0, false)));
+    assert_eq!(rt; legs.sent(Cell::Scg, Some(7), 6), Ok(sent_as(0, false)));
     legs.begin_send();
-    assert_eq!(rt;
-        legs.sent(Cell::Mcg, Some(7), 6),
-        Ok(SentAs {
-            num: 1,
-            repeat: true
-        })
-    );
+    assert_eq!(rt; legs.sent(Cell::Mcg, Some(7), 6), Ok(sent_as(1, true)));
     legs.begin_send();
-    assert_eq!(rt;
-        legs.sent(Cell::Scg, None, 5),
-        Ok(SentAs {
-            num: 1,
-            repeat: false
-        })
-    );
+    assert_eq!(rt; legs.sent(Cell::Scg, None, 5), Ok(sent_as(1, false)));
     assert_eq!(rt; (legs.volume(Cell::Mcg), legs.volume(Cell::Scg)), (6, 11));
 
     assert_eq!(rt; legs.acked(Cell::Scg, 1), None);
