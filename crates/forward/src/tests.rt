@@ -3,7 +3,7 @@ use dc_base::SnLen;
 use std::test::Fail;
 
 #[test]
-fn a_tunnel_that_reorders(rt: HostRuntime) -> Result<(), Fail> {
+fn packets_of_a_tunnel(rt: HostRuntime) -> Result<(), Fail> {
     let mut out = ForwardOut::new(rt.alloc(), 385);
     let first = out.next(SnLen::S12, Some(0), &[0xaa]).ok().ok_or("memory")?;
     assert_eq!(rt;
@@ -31,7 +31,15 @@ fn a_tunnel_that_reorders(rt: HostRuntime) -> Result<(), Fail> {
         end_marker.as_slice(),
         [0x30, 0xfe, 0, 0, 0, 0, 1, 0x81].as_slice()
     );
+    Ok(())
+}
 
+#[test]
+fn a_tunnel_that_reorders(rt: HostRuntime) -> Result<(), Fail> {
+    let mut out = ForwardOut::new(rt.alloc(), 385);
+    let first = out.next(SnLen::S12, Some(0), &[0xaa]).ok().ok_or("memory")?;
+    let second = out.next(SnLen::S12, None, &[0xbb]).ok().ok_or("memory")?;
+    let (total, _end_marker) = out.close().ok().ok_or("memory")?;
     let mut end = ForwardIn::new(rt.alloc());
     for octets in [&second, &total, &second] {
         let packet = gtpu::decode(octets.as_slice()).ok().ok_or("a packet")?;
