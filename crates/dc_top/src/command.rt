@@ -81,6 +81,9 @@ pub fn run_command<S: Source, K: Sink, E: Sink>(
         → (result ≡ Status.Usage) ⊎ (result ≡ Status.Memory) }
     ensures read_fault { result ≡ Status.ReadFault → Rose (S.fault_count src.old) (S.fault_count src.new) }
     ensures write_fault { result ≡ Status.WriteFault → Rose (K.fault_count out.old) (K.fault_count out.new) }
+
+    // Where the answer is Ok, `err` is as before.
+    ensures quiet { result ≡ Status.Ok → err.new ≡ err.old }
 {
     let status = if is_run(words) {
         run(alloc, src, out)

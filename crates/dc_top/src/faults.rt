@@ -1,5 +1,8 @@
 //! The texts of faults.
 
+ghost use Rattle.std.specs.Prelude.{◌≡◌};
+ghost use Rattle.dc_base.specs.declared.answers.Status.{Status};
+
 use dc_base::Status;
 use dc_outside::{Failed, Sink};
 
@@ -23,7 +26,9 @@ fn write_bad_line<E: Sink>(line: u32, column: u32, err: &mut E) -> Result<(), Fa
 }
 
 /// Writes the fault text of a status, and nothing for Ok. A fault of `err` changes nothing.
-pub fn write_fault<E: Sink>(status: Status, err: &mut E) {
+pub fn write_fault<E: Sink>(status: Status, err: &mut E)
+    ensures { status ≡ Status.Ok → err.new ≡ err.old }
+{
     let _written = match status {
         Status::Ok => Ok(()),
         Status::Usage => err.write_all(USAGE),
