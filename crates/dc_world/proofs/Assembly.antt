@@ -159,7 +159,7 @@ module _ (h : Header) (policies : ℕ) (t : List Entry) (w : WorldState) (e : En
             (let before = told_before b d there in let after = served_told t' s' links' b d served in
             ap (λ m. if nat_lt m (low (half b (sender_table d s')).tx) then low (half b (sender_table d s')).tx ∷ [] else []) (sym before)
             ∙ ap (λ m. if nat_lt (told b d t) m then m ∷ [] else []) (sym after));
-        complete = λ quiet. served_complete t' s' links' b d served (sym (contents-next t e w.links sound.long sound.contents (leg d)) ∙ quiet (leg d));
+        complete = λ none. served_complete t' s' links' b d served (sym (contents-next t e w.links sound.long sound.contents (leg d)) ∙ none);
       }
 
   -- with nothing on the control links no command is open

@@ -28,7 +28,7 @@ use Rattle.pdcp_tx.specs.Sending.{taken, confirmed, reported}
 use Rattle.pdcp_tx.specs.declared.tx.TxErr.{TxErr}
 use Rattle.pdcp_tx.specs.declared.tx.TxErr.TheVariants as refused
 use Rattle.transcript.specs.Text.{is_data}
-use Rattle.transcript.specs.Content.{mt_air, tm_air}
+use Rattle.transcript.specs.Content.{air_link}
 use Rattle.transcript.specs.Bearers.{Established, master_key}
 use Rattle.transcript.specs.Claims.{receiver}
 use Rattle.dc_world.specs.Entities.{Entities, Table, bearer_in, with_bearer}
@@ -39,8 +39,7 @@ Outcome = Answer × List Line
 
 -- the leg on which PDUs of a direction travel
 abbrev pub leg : Dir → LinkId
-leg Dl = mt_air
-leg Ul = tm_air
+leg d = air_link d
 
 -- the direction of what travels the other way
 abbrev pub other : Dir → Dir

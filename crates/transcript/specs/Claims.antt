@@ -30,7 +30,7 @@ use Rattle.key_chain.specs.KeyNames.{upenc}
 use Rattle.pdcp_pdu.specs.DataPdu.{data_pdu}
 use Rattle.transcript.specs.Text.{is_data}
 use Rattle.transcript.specs.Transcript.{Entry, sends, Each, SomeEntry}
-use Rattle.transcript.specs.Content.{mt_ctl, tm_ctl, reverse, direction, content, given}
+use Rattle.transcript.specs.Content.{mt_ctl, tm_ctl, air_link, reverse, direction, content, given}
 use Rattle.transcript.specs.Bearers.{Established, established, latest, is_generation_of, plans, plan_drawn, key_in, roots, submitted, ups, handed, numbered, frees, told, confirmed, is_confirmed, open_command, at_master, at_node, at_submitter, submitter}
 
 -- the flight is a data PDU of the bearer in this direction
@@ -102,10 +102,10 @@ Frees b d before e =
 abbrev pub IsQuiet : List Entry → Type 0
 IsQuiet t = (l : LinkId) → content l t ≡ []
 
--- all that was submitted so far was handed up, if the links are empty
+-- all that was submitted so far was handed up, if nothing stands on the air link of the direction
 abbrev pub Complete : Established → Dir → List Entry → Entry → Type 0
 Complete b d before e =
-    let t = before ++ e ∷ [] in IsQuiet t → handed b d t ≡ numbered b.first (submitted b d t)
+    let t = before ++ e ∷ [] in content (air_link d) t ≡ [] → handed b d t ≡ numbered b.first (submitted b d t)
 
 -- what is claimed of a bearer, in one direction, at each entry from its establishment on
 pub record IsKept (h : Header) (b : Established) (d : Dir) (before : List Entry) (e : Entry) : Type 0 where

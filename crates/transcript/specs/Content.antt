@@ -56,6 +56,11 @@ mt_air = record { from = M; to = T; class = Air }
 abbrev pub tm_air : LinkId
 tm_air = record { from = T; to = M; class = Air }
 
+-- the air link on which PDUs of a direction travel
+abbrev pub air_link : Dir → LinkId
+air_link Dl = mt_air
+air_link Ul = tm_air
+
 -- whether this node receives from it
 abbrev pub is_to : Node → LinkId → Bool
 is_to node l = node_number l.to == node_number node
