@@ -1,12 +1,12 @@
 -- `count_for` finds the one COUNT in the window that shows a sequence number.
-use Rattle.std.proofs.Common.{ℕ, zero, suc, ◌≡◌, ◌+◌, ◌*◌, ◌^◌, ◌<◌, ◌≤◌, Option, Some, None, MatchOption, refl, sym, ap, ◌∙◌, arith, inl, inr}
-use Rattle.std.proofs.Math.Nat.{mul-le-mul_right}
+use Rattle.std.proofs.Common.{ℕ, zero, suc, ◌≡◌, ◌+◌, ◌-◌, ◌*◌, ◌/◌, ◌%◌, ◌^◌, ◌<◌, ◌≤◌, Option, Some, None, MatchOption, refl, sym, ap, ◌∙◌, arith, inl, inr}
 use Rattle.std.proofs.lemmas.Nat.{mod-mul-add, div-add-mod'}
-use Rattle.std.proofs.lemmas.Bool.{cond-true, cond-false, lt-ltb, le-ltb, ltb-true, cases_lt, cases_order}
+use Rattle.std.proofs.lemmas.Bool.{cond-true, cond-false, lt-ltb, le-ltb, ltb-true, cases_lt}
+use Rattle.std.proofs.Math.Nat.{add-mul-mod_self_right}
 use Rattle.std.proofs.lemmas.Option.{cond_some}
 use Rattle.dc_base.specs.declared.numbers.SnLen.{SnLen}
 use Rattle.dc_base.specs.declared.numbers.SnLen.TheVariants.{S12, S18}
-use Rattle.dc_base.specs.Count.{modulus, window, sn, hfn, joined, before, count_for, IsCountFor, HasNoCountFor}
+use Rattle.dc_base.specs.Count.{modulus, window, sn, distance, count_below, count_for, IsCountFor, HasNoCountFor}
 
 pub two_windows : (n : SnLen) → modulus n ≡ 2 * window n
 unfolding modulus window
@@ -26,111 +26,82 @@ window_small S18 = omega arith
 pub modulus_bounds : (n : SnLen) → (modulus n ≡ modulus n) × (modulus n ≡ 2 * window n) × (0 < modulus n) × (modulus n ≤ 2 ^ 18)
 modulus_bounds n = (refl, two_windows n, omega (arith, two_windows n, window_some n), omega (arith, two_windows n, window_small n))
 
-pub hfn_small : (n : SnLen) (c : ℕ) → c < 2 ^ 32 → hfn n c ≤ 2 ^ 20
-unfolding hfn modulus
-hfn_small S12 c h = omega arith
-hfn_small S18 c h = omega arith
-
 pub sn_small : (n : SnLen) (c : ℕ) → sn n c < modulus n
 unfolding sn
 sn_small n c = let some : 0 < modulus n = omega (arith, two_windows n, window_some n) in omega arith
 
-pub parts : (n : SnLen) (c : ℕ) → c ≡ hfn n c * modulus n + sn n c
-unfolding sn hfn
+-- a number is a multiple of the modulus and its sequence number
+pub parts : (n : SnLen) (c : ℕ) → c ≡ (c / modulus n) * modulus n + sn n c
+unfolding sn
 parts n c = sym (div-add-mod' c (modulus n))
 
-pub sn_joined : (n : SnLen) (h s : ℕ) → s < modulus n → sn n (h * modulus n + s) ≡ s
+-- two numbers that differ by multiples of m have the same rest
+same_rest : (m x y a b : ℕ) → y < m → x + a * m ≡ y + b * m → x % m ≡ y
+same_rest m x y a b small e =
+    let turned : x + a * m ≡ b * m + y = omega (arith, e) in
+    sym (add-mul-mod_self_right x a m) ∙ ap (λ (k : ℕ). k % m) turned ∙ mod-mul-add b m y small
+
+-- the distance is below a whole window, and what it is the rest of
+pub distance_is : (n : SnLen) (r s : ℕ) → s < modulus n
+    → (distance n r s < modulus n)
+    × (s + modulus n + window n - sn n r ≡ ((s + modulus n + window n - sn n r) / modulus n) * modulus n + distance n r s)
+unfolding distance
+distance_is n r s small =
+    let some : 0 < modulus n = omega (arith, two_windows n, window_some n) in
+    (omega arith, sym (div-add-mod' (s + modulus n + window n - sn n r) (modulus n)))
+
+-- what `count_below` gives
+below_some : (x w c : ℕ) → count_below x w ≡ Some c → (c + w ≡ x) × (c < 2 ^ 32)
+below_some x w c e = elim (cases_lt x w) [
+  | inl less ↦ absurd cc (e, cond-true _ _ _ (lt-ltb _ _ less))
+  | inr enough ↦
+      let p = cond_some _ _ _ (sym (cond-false _ _ _ (le-ltb _ _ enough)) ∙ e) in
+      let small : x - w < 2 ^ 32 = ltb-true _ _ p.0 in
+      let is = p.1 in
+      (omega (arith, is, enough), omega (arith, is, small))
+]
+
+below_is : (x w c : ℕ) → c + w ≡ x → c < 2 ^ 32 → count_below x w ≡ Some c
+below_is x w c e small =
+    let is : x - w ≡ c = omega (arith, e) in
+    let less : x - w < 2 ^ 32 = omega (arith, is, small) in
+    let enough : w ≤ x = omega (arith, e) in
+    cond-false _ _ _ (le-ltb x w enough) ∙ cond-true _ _ _ (lt-ltb _ _ less) ∙ ap Some is
+
+shown : (n : SnLen) (c s q h : ℕ) → s < modulus n → c + q * modulus n ≡ s + h * modulus n → sn n c ≡ s
 unfolding sn
-sn_joined n h s small = mod-mul-add h (modulus n) s small
-
-pub joined_is : (n : SnLen) (h s : ℕ) → h * modulus n + s < 2 ^ 32 → joined n h s ≡ Some (h * modulus n + s)
-unfolding joined
-joined_is n h s small = cond-true _ _ _ (lt-ltb _ _ small)
-
-pub joined_some : (n : SnLen) (h s c : ℕ) → joined n h s ≡ Some c → (c ≡ h * modulus n + s) × (c < 2 ^ 32)
-unfolding joined
-joined_some n h s c e =
-    let p = cond_some _ _ _ e in
-    (sym p.1, let small : h * modulus n + s < 2 ^ 32 = ltb-true _ _ p.0 in omega (arith, p.1))
-
--- which of the three COUNTs that end in s is in the window
-count_for_next : (n : SnLen) (r s : ℕ) → s + window n < sn n r → count_for n r s ≡ joined n (hfn n r + 1) s
-unfolding count_for
-count_for_next n r s h = cond-true _ _ _ (lt-ltb _ _ h)
-
-count_for_here : (n : SnLen) (r s : ℕ) → sn n r ≤ s + window n → s < sn n r + window n → count_for n r s ≡ joined n (hfn n r) s
-unfolding count_for
-count_for_here n r s low high = cond-false _ _ _ (le-ltb _ _ low) ∙ cond-true _ _ _ (lt-ltb _ _ high)
-
-count_for_before : (n : SnLen) (r s : ℕ) → sn n r + window n ≤ s → count_for n r s ≡ before n (hfn n r) s
-unfolding count_for
-count_for_before n r s h =
-    let low : sn n r ≤ s + window n = omega arith in
-    cond-false _ _ _ (le-ltb _ _ low) ∙ cond-false _ _ _ (le-ltb _ _ h)
-
-before_some : (n : SnLen) (h s c : ℕ) → before n h s ≡ Some c → (k : ℕ) × (h ≡ k + 1) × (c ≡ k * modulus n + s) × (c < 2 ^ 32)
-unfolding before
-before_some n zero s c e = absurd cc
-before_some n (suc k) s c e = let p = joined_some n k s c e in (k, omega arith, p.0, p.1)
-
-before_suc : (n : SnLen) (h s : ℕ) → before n (suc h) s ≡ joined n h s
-unfolding before
-before_suc n h s = refl
+shown n c s q h small e = same_rest (modulus n) c s q h small e
 
 -- what `count_for` finds is in the window, shows s, and is a COUNT
 pub count_for_finds : (n : SnLen) (r s c : ℕ) → s < modulus n → count_for n r s ≡ Some c → IsCountFor n r s c × (c < 2 ^ 32)
+unfolding count_for
 count_for_finds n r s c small e =
     let two = two_windows n in
+    let p = below_some (r + distance n r s) (window n) c e in
+    let at = p.0 in
+    let d = distance_is n r s small in
+    let d_small = d.0 in
+    let rest = d.1 in
     let r_is = parts n r in
     let t_small = sn_small n r in
-    elim (cases_lt (s + window n) (sn n r)) [
-      | inl up ↦
-          let p = joined_some n (hfn n r + 1) s c (sym (count_for_next n r s up) ∙ e) in
-          (record { low = omega arith; high = omega arith; shows = ap (sn n) p.0 ∙ sn_joined n (hfn n r + 1) s small }, p.1)
-      | inr low ↦ elim (cases_lt s (sn n r + window n)) [
-        | inl high ↦
-            let p = joined_some n (hfn n r) s c (sym (count_for_here n r s low high) ∙ e) in
-            (record { low = omega arith; high = omega arith; shows = ap (sn n) p.0 ∙ sn_joined n (hfn n r) s small }, p.1)
-        | inr down ↦
-            let p = before_some n (hfn n r) s c (sym (count_for_before n r s down) ∙ e) in
-            let product = ap (λ (k : ℕ). k * modulus n) p.1 in
-            (record { low = omega arith; high = omega arith; shows = ap (sn n) p.2 ∙ sn_joined n p.0 s small }, p.3)
-      ]
-    ]
+    let q = (s + modulus n + window n - sn n r) / modulus n in
+    let turned : c + q * modulus n ≡ s + (r / modulus n + 1) * modulus n = omega (arith, at, rest, r_is, t_small) in
+    (record { low = omega (arith, at); high = omega (arith, at, d_small, two); shows = shown n c s q (r / modulus n + 1) small turned }, p.1)
 
 -- a COUNT in the window that shows s is what `count_for` finds
 pub count_for_is : (n : SnLen) (r s c : ℕ) → c < 2 ^ 32 → IsCountFor n r s c → count_for n r s ≡ Some c
+unfolding count_for distance
 count_for_is n r s c small w =
-    let M = modulus n in let q = hfn n c in let h = hfn n r in
     let two = two_windows n in
     let t_small = sn_small n r in
-    let s_small : s < M = omega (arith, sn_small n c, w.shows) in
     let r_is = parts n r in
-    let c_is : c ≡ q * M + s = omega (arith, parts n c, w.shows) in
-    let low = w.low in let high = w.high in
-    elim (cases_order q h) [
-      | inl same ↦
-          let product = ap (λ (k : ℕ). k * M) same in
-          let found : joined n h s ≡ Some (h * M + s) = joined_is n h s (omega arith) in
-          count_for_here n r s (omega arith) (omega arith) ∙ found ∙ ap Some (omega arith)
-      | inr apart ↦ elim apart [
-        | inl less ↦
-            let products = mul-le-mul_right M less in
-            let one : h ≡ suc q = elim (cases_lt (suc q) h) [
-              | inl far ↦ let far_off = mul-le-mul_right M far in absurd (omega arith)
-              | inr near ↦ omega arith
-            ] in
-            let product = ap (λ (k : ℕ). k * M) one in
-            count_for_before n r s (omega arith) ∙ ap (λ k. before n k s) one ∙ before_suc n q s ∙ joined_is n q s (omega arith) ∙ ap Some (omega arith)
-        | inr more ↦
-            let one : q ≡ suc h = elim (cases_lt (suc h) q) [
-              | inl far ↦ let far_off = mul-le-mul_right M far in absurd (omega arith)
-              | inr near ↦ omega arith
-            ] in
-            let product = ap (λ (k : ℕ). k * M) one in
-            count_for_next n r s (omega arith) ∙ joined_is n (h + 1) s (omega arith) ∙ ap Some (omega arith)
-      ]
-    ]
+    let c_is = parts n c in
+    let low = w.low in let high = w.high in let shows = w.shows in
+    let e = c + window n - r in
+    let turned : s + modulus n + window n - sn n r + (c / modulus n) * modulus n ≡ e + (r / modulus n + 1) * modulus n =
+    omega (arith, r_is, c_is, low, shows, t_small) in
+    let far = same_rest (modulus n) (s + modulus n + window n - sn n r) e (c / modulus n) (r / modulus n + 1) (omega (arith, low, high, two)) turned in
+    below_is (r + distance n r s) (window n) c (omega (arith, far, low)) small
 
 -- so it decides whether there is one
 pub count_for_decides : (n : SnLen) (r s : ℕ) (o : Option ℕ) → s < modulus n → o ≡ count_for n r s

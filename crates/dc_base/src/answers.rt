@@ -1,5 +1,7 @@
 //! Answers to events, words of refusal, and the status of a run.
 
+ghost use Rattle.std.specs.Prelude.{◌≡◌};
+
 /// Why an event is refused.
 #[derive(Clone, Copy, Debug, PartialEq, Eq)]
 pub enum Refusal {
@@ -15,7 +17,7 @@ pub enum Refusal {
     SecondaryThere,
     /// The bearer has this shape already.
     SameShape,
-    /// An earlier bearer of this identity used the key.
+    /// An earlier bearer of this identity used the key (TS 38.331, 5.3.5.6.5: a key is not used again with an identity).
     IdSpent,
     /// Every SN Counter of the current root was drawn.
     CounterSpent,
@@ -29,7 +31,7 @@ pub enum Refusal {
     NotTunnel,
     /// The flight is older than the receiver's window.
     Aged,
-    /// Half the COUNTs of the window are on their way.
+    /// A whole window of COUNTs, half of the sequence numbers, is on its way.
     Full,
     /// No COUNT is left.
     Exhausted,
@@ -72,4 +74,24 @@ pub enum Status {
     TooLong,
     /// The next event is one that the program does not take yet.
     NotBuilt,
+}
+
+impl Status {
+    ghost use Rattle.dc_base.specs.Statuses.{status_number};
+
+    /// The number with which the program ends, 0 to 7.
+    pub fn number(&self) -> u8
+        ensures { result ≡ status_number self.now }
+    {
+        match self {
+            Status::Ok => 0,
+            Status::Usage => 1,
+            Status::BadLine { .. } => 2,
+            Status::ReadFault => 3,
+            Status::WriteFault => 4,
+            Status::Memory => 5,
+            Status::TooLong => 6,
+            Status::NotBuilt => 7,
+        }
+    }
 }

@@ -21,7 +21,7 @@ pub struct Header {
 }
 
 /// One event: a command, a submission, a failure, or what happens to a flight.
-#[derive(Debug, Drop)]
+#[derive(Clone, Debug, Drop, PartialEq, Eq)]
 pub enum Event {
     /// Sets a new bearer up.
     Bearer {
@@ -102,7 +102,7 @@ pub enum Event {
 }
 
 /// A consequence of an event that is no send.
-#[derive(Debug, Drop)]
+#[derive(Clone, Debug, Drop, PartialEq, Eq)]
 pub enum Note {
     /// The master begins what a secondary asked for.
     Begin {
@@ -169,7 +169,7 @@ pub enum Note {
 }
 
 /// A line of a transcript.
-#[derive(Debug, Drop)]
+#[derive(Debug, Drop, PartialEq, Eq)]
 pub enum Line {
     Event(Event),
     Answer(Answer),
@@ -182,64 +182,7 @@ impl Event {
     pub fn copy(&self) -> Result<Event, Memory>
         ensures { IfOk result (λ made. made ≡ self.now) }
     {
-        Ok(match self {
-            Event::Bearer {
-                id,
-                n,
-                first,
-                shape,
-                threshold,
-                policy,
-            } => Event::Bearer {
-                id: *id,
-                n: *n,
-                first: *first,
-                shape: *shape,
-                threshold: *threshold,
-                policy: *policy,
-            },
-            Event::Reshape { id, shape } => Event::Reshape {
-                id: *id,
-                shape: *shape,
-            },
-            Event::Remove { id } => Event::Remove { id: *id },
-            Event::Add { node } => Event::Add { node: *node },
-            Event::Change => Event::Change,
-            Event::Release => Event::Release,
-            Event::RekeySecond => Event::RekeySecond,
-            Event::RekeyMaster { root } => Event::RekeyMaster { root: *root },
-            Event::Recover { id } => Event::Recover { id: *id },
-            Event::Report { node, id } => Event::Report {
-                node: *node,
-                id: *id,
-            },
-            Event::Deny { node, on } => Event::Deny {
-                node: *node,
-                on: *on,
-            },
-            Event::Ask { node, what } => Event::Ask {
-                node: *node,
-                what: *what,
-            },
-            Event::ScgFail => Event::ScgFail,
-            Event::Submit { id, dir, sdu } => Event::Submit {
-                id: *id,
-                dir: *dir,
-                sdu: sdu.copy()?,
-            },
-            Event::Step { link, index } => Event::Step {
-                link: *link,
-                index: *index,
-            },
-            Event::Lose { link, index } => Event::Lose {
-                link: *link,
-                index: *index,
-            },
-            Event::Again { link, index } => Event::Again {
-                link: *link,
-                index: *index,
-            },
-        })
+        Ok(self.clone()?)
     }
 }
 
@@ -248,48 +191,7 @@ impl Note {
     pub fn copy(&self) -> Result<Note, Memory>
         ensures { IfOk result (λ made. made ≡ self.now) }
     {
-        Ok(match self {
-            Note::Begin { what } => Note::Begin { what: *what },
-            Note::Join { node, g } => Note::Join { node: *node, g: *g },
-            Note::Leave { node, g } => Note::Leave { node: *node, g: *g },
-            Note::Give { node, id, g } => Note::Give {
-                node: *node,
-                id: *id,
-                g: *g,
-            },
-            Note::Own { node, id, g } => Note::Own {
-                node: *node,
-                id: *id,
-                g: *g,
-            },
-            Note::Set { id, g } => Note::Set { id: *id, g: *g },
-            Note::Unset { id } => Note::Unset { id: *id },
-            Note::Up {
-                node,
-                id,
-                dir,
-                count,
-                sdu,
-            } => Note::Up {
-                node: *node,
-                id: *id,
-                dir: *dir,
-                count: *count,
-                sdu: sdu.copy()?,
-            },
-            Note::Freed { id, dir, count } => Note::Freed {
-                id: *id,
-                dir: *dir,
-                count: *count,
-            },
-            Note::Confirmed { node } => Note::Confirmed { node: *node },
-            Note::Refused { node, word } => Note::Refused {
-                node: *node,
-                word: *word,
-            },
-            Note::Done => Note::Done,
-            Note::Rejected => Note::Rejected,
-        })
+        Ok(self.clone()?)
     }
 }
 

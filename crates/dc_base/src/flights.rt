@@ -7,7 +7,7 @@ use crate::lists::{Memory, Octets};
 use crate::records::Rec;
 
 /// What stands on a link.
-#[derive(Debug, Drop)]
+#[derive(Debug, Drop, PartialEq, Eq)]
 pub enum Flight {
     /// A PDCP PDU on an air leg, with its number on that leg from 0: a data PDU if bit 7 of its first octet is 1,
     /// and else a control PDU.

@@ -9,7 +9,7 @@ use std::marker::Model;
 pub type Gen = u32;
 
 /// A data radio bearer identity, 1 to 32 (TS 38.331, DRB-Identity). Contracts see the number.
-#[derive(Clone, Copy, Debug, PartialEq, Eq)]
+#[derive(Clone, Copy, Debug, PartialEq, Eq, PartialOrd, Ord)]
 pub struct DrbId {
     number: u8,
 }
@@ -49,7 +49,8 @@ impl DrbId {
     }
 }
 
-/// The COUNT that a flight carries beside its octets, or none. Nodes pass it on unread.
+/// The COUNT that a flight carries beside its octets, or none. Nodes pass it on unread; the world reads it, to judge
+/// whether a flight is aged.
 #[derive(Clone, Copy, Debug, PartialEq, Eq)]
 pub struct Tag {
     count: Option<u32>,
@@ -114,13 +115,20 @@ pub fn teid_parts(teid: u32) -> (Gen, DrbId, u8)
 #[cfg(test)]
 mod tests {
     use super::*;
+    use std::test::Fail;
 
     #[test]
-    fn a_tunnel_of_downlink_forwarding(rt: HostRuntime) {
-        if let Some(id) = DrbId::new(1) {
-            assert_eq!(rt; teid_of(3, id, 1), 385);
-            assert_eq!(rt; teid_parts(385), (3, id, 1));
-        }
+    fn identities_and_tunnels(rt: HostRuntime) -> Result<(), Fail> {
+        assert_eq!(rt; DrbId::new(0), None);
         assert_eq!(rt; DrbId::new(33), None);
+        assert_eq!(rt; DrbId::new(1).ok_or("1 is an identity")?.get(), 1);
+        let last = DrbId::new(32).ok_or("32 is an identity")?;
+        assert_eq!(rt; last.get(), 32);
+        let first = DrbId::new(1).ok_or("1 is an identity")?;
+        assert_eq!(rt; teid_of(3, first, 1), 385);
+        assert_eq!(rt; teid_parts(385), (3, first, 1));
+        assert_eq!(rt; teid_of(16_777_215, last, 3), 2_147_483_647);
+        assert_eq!(rt; teid_parts(2_147_483_647), (16_777_215, last, 3));
+        Ok(())
     }
 }

@@ -1,9 +1,11 @@
 //! Lists of octets and of values, seen in contracts as plain lists.
 
-ghost use Rattle.std.specs.Prelude.{◌≡◌, ◌==◌, ℕ, ◌<◌, ◌≤◌, ◌↔◌, List, [], ◌∷◌, ◌++◌, length, slice_get, IsNone, IfOk, OnOk, OnErr};
+ghost use Rattle.std.specs.Prelude.{◌≡◌, ◌==◌, nat_eq, ℕ, ◌<◌, ◌≤◌, ◌↔◌, List, [], ◌∷◌, ◌++◌, length, slice_get, IsNone, IfOk, OnOk, OnErr};
 ghost use Rattle.std.specs.Option.{option_copied};
+ghost use Rattle.std.specs.Cmp.{partial_equiv_from_equiv};
+ghost use Rattle.std.specs.Cmp.Lexicographic.{pointwise, nat_list_eq_equiv, lists_per, lists_equiv};
 
-use std::alloc::{AllocError, Global};
+use std::alloc::{AllocError, AllocFailed, Global};
 use std::marker::Model;
 
 /// There was no memory for what was asked. It has no parts.
@@ -18,8 +20,16 @@ impl From<AllocError> for Memory {
     }
 }
 
+impl<T: Drop> From<AllocFailed<T>> for Memory {
+    ghost from_gives = { λ _ e. e ≡ record {} };
+
+    fn from(_e: AllocFailed<T>) -> Memory {
+        Memory
+    }
+}
+
 /// A list of octets.
-#[derive(Debug, Drop)]
+#[derive(Clone, Debug, Drop)]
 pub struct Octets {
     octets: Vec<u8>,
 }
@@ -30,6 +40,20 @@ impl Model for Octets {
     ghost Value = { List ℕ };
 
     ghost view = { λ a. a.octets.items };
+}
+
+impl PartialEq for Octets {
+    ghost eq = { pointwise nat_eq };
+
+    ghost laws = { partial_equiv_from_equiv nat_list_eq_equiv };
+
+    fn eq(&self, other: &Octets) -> bool {
+        self.octets == other.octets
+    }
+}
+
+impl Eq for Octets {
+    ghost laws = { nat_list_eq_equiv };
 }
 
 impl Octets {
@@ -53,10 +77,9 @@ impl Octets {
     pub fn from_slice(alloc: Global, octets: &[u8]) -> Result<Octets, Memory>
         ensures { IfOk result (λ made. made ≡ octets.now) }
     {
-        match Vec::from_slice(alloc, octets) {
-            Ok(octets) => Ok(Octets { octets }),
-            Err(_) => Err(Memory),
-        }
+        Ok(Octets {
+            octets: Vec::from_slice(alloc, octets)?,
+        })
     }
 
     /// The octets as a vector. It takes no memory.
@@ -71,10 +94,8 @@ impl Octets {
         ensures ok { OnOk result (self.new ≡ self.old ++ octet ∷ []) }
         ensures err { OnErr result (self.new ≡ self.old) }
     {
-        match self.octets.push(octet) {
-            Ok(()) => Ok(()),
-            Err(_) => Err(Memory),
-        }
+        self.octets.push(octet)?;
+        Ok(())
     }
 
     /// Adds octets at the end. After `Memory` the list is as before.
@@ -82,10 +103,8 @@ impl Octets {
         ensures ok { OnOk result (self.new ≡ self.old ++ octets.now) }
         ensures err { OnErr result (self.new ≡ self.old) }
     {
-        match self.octets.extend_from_slice(octets) {
-            Ok(()) => Ok(()),
-            Err(_) => Err(Memory),
-        }
+        self.octets.extend_from_slice(octets)?;
+        Ok(())
     }
 
     /// The octets.
@@ -113,15 +132,12 @@ impl Octets {
     pub fn copy(&self) -> Result<Octets, Memory>
         ensures { IfOk result (λ made. made ≡ self.now) }
     {
-        match self.octets.clone() {
-            Ok(octets) => Ok(Octets { octets }),
-            Err(_) => Err(Memory),
-        }
+        Ok(self.clone()?)
     }
 }
 
 /// A list of values.
-#[derive(Debug, Drop)]
+#[derive(Clone, Debug, Drop)]
 pub struct Seq<T> {
     items: Vec<T>,
 }
@@ -132,6 +148,20 @@ impl<T> Model for Seq<T> {
     ghost Value = { List T };
 
     ghost view = { λ a. a.items.items };
+}
+
+impl<T: PartialEq> PartialEq for Seq<T> {
+    ghost eq = { pointwise T.eq };
+
+    ghost laws = { lists_per T.laws };
+
+    fn eq(&self, other: &Seq<T>) -> bool {
+        self.items == other.items
+    }
+}
+
+impl<T: Eq> Eq for Seq<T> {
+    ghost laws = { lists_equiv T.Eq.laws };
 }
 
 impl<T> Seq<T> {
@@ -194,10 +224,8 @@ impl<T: Drop> Seq<T> {
         ensures ok { OnOk result (self.new ≡ self.old ++ value ∷ []) }
         ensures err { OnErr result (self.new ≡ self.old) }
     {
-        match self.items.push(value) {
-            Ok(()) => Ok(()),
-            Err(_) => Err(Memory),
-        }
+        self.items.push(value)?;
+        Ok(())
     }
 }
 
@@ -206,9 +234,8 @@ impl<T: Copy> Seq<T> {
     pub fn copy(&self) -> Result<Seq<T>, Memory>
         ensures { IfOk result (λ made. made ≡ self.now) }
     {
-        match Vec::from_slice(*self.items.allocator(), self.items.as_slice()) {
-            Ok(items) => Ok(Seq { items }),
-            Err(_) => Err(Memory),
-        }
+        Ok(Seq {
+            items: Vec::from_slice(*self.items.allocator(), self.items.as_slice())?,
+        })
     }
 }

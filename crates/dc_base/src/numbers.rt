@@ -1,7 +1,7 @@
 //! COUNTs, and the part of each that is sent (TS 38.323, 6.3.5 and 7.1).
 
-ghost use Rattle.std.specs.Prelude.{◌≡◌, ℕ, ◌<◌, ◌≤◌, ◌^◌, MatchOption};
-ghost use Rattle.dc_base.specs.Count.{modulus, window, sn, hfn, joined, count_for, IsCountFor, HasNoCountFor};
+ghost use Rattle.std.specs.Prelude.{◌≡◌, ℕ, ◌<◌, MatchOption};
+ghost use Rattle.dc_base.specs.Count.{modulus, window, sn, distance, count_for, IsCountFor, HasNoCountFor};
 
 /// The length of a PDCP sequence number (TS 38.323, 6.3.2).
 #[derive(Clone, Copy, Debug, PartialEq, Eq)]
@@ -41,53 +41,43 @@ pub fn sn_of(n: SnLen, count: u32) -> u32
     count % modulus(n)
 }
 
-/// The rest of a COUNT, its hyper frame number.
-#[tactic(auto, using(crate::proofs::Counting::modulus_bounds, crate::proofs::Counting::hfn_small), unfolding(crate::specs::Count::hfn))]
-fn hfn_of(n: SnLen, count: u32) -> u32
-    ensures computed { result ≡ hfn n count }
-    ensures small { result ≤ 2 ^ 20 }
-{
-    count / modulus(n)
-}
-
-/// The COUNT of a hyper frame number and a sequence number, if COUNTs go that far.
-#[tactic(auto, unfolding(crate::specs::Count::joined))]
-fn count_of(n: SnLen, hfn: u32, sn: u32) -> Option<u32>
-    ensures { result ≡ joined n hfn sn }
-{
-    hfn.checked_mul(modulus(n))?.checked_add(sn)
-}
-
-/// The COUNT by the three hyper frame numbers that come into question (TS 38.323, 5.2.2.1).
-#[tactic(auto, using(crate::proofs::Counting::modulus_bounds), unfolding(crate::specs::Count::count_for, crate::specs::Count::before))]
-fn inferred(n: SnLen, reference: u32, sn: u32) -> Option<u32>
+/// How far above the lower end of the window round `reference` the first number that has the sequence number
+/// `sn` lies, in COUNTs. `sn` is below 2^12 or 2^18.
+#[tactic(auto, using(crate::proofs::Counting::modulus_bounds, crate::proofs::Counting::window_small), unfolding(crate::specs::Count::distance))]
+fn distance(n: SnLen, reference: u32, sn: u32) -> u32
     requires { sn < modulus n }
-    ensures { result ≡ count_for n reference sn }
+    ensures { result ≡ distance n reference sn }
 {
-    let window = window(n);
-    let hfn = hfn_of(n, reference);
-    let seen = sn_of(n, reference);
-    if sn + window < seen {
-        count_of(n, hfn + 1, sn)
-    } else if sn < seen + window {
-        count_of(n, hfn, sn)
-    } else if hfn == 0 {
-        None
-    } else {
-        count_of(n, hfn - 1, sn)
-    }
+    (sn + modulus(n) + window(n) - sn_of(n, reference)) % modulus(n)
 }
 
 /// The COUNT that has the sequence number `sn` and lies in the window round `reference`: from
 /// `reference - window(n)` on, and below `reference + window(n)`. `None` exactly where that number is
 /// below 0 or above 2^32 - 1 (TS 38.323, 5.2.2.1). `sn` is below 2^12 or 2^18.
-#[tactic(auto, using(crate::proofs::Counting::count_for_decides))]
+#[tactic(auto, using(crate::proofs::Counting::count_for_decides), unfolding(crate::specs::Count::count_for))]
 pub fn infer(n: SnLen, reference: u32, sn: u32) -> Option<u32>
     requires { sn < modulus n }
     ensures found { MatchOption result (HasNoCountFor n reference sn) (λ c. IsCountFor n reference sn c) }
     ensures computed { result ≡ count_for n reference sn }
 {
     inferred(n, reference, sn)
+}
+
+/// The same, by how far the number lies above the window's lower end.
+#[tactic(auto, unfolding(crate::specs::Count::count_for))]
+fn inferred(n: SnLen, reference: u32, sn: u32) -> Option<u32>
+    requires { sn < modulus n }
+    ensures { result ≡ count_for n reference sn }
+{
+    let above = reference as u64 + distance(n, reference, sn) as u64;
+    let window = window(n) as u64;
+    if above < window {
+        None
+    } else if above - window < 1 << 32 {
+        Some((above - window) as u32)
+    } else {
+        None
+    }
 }
 
 #[cfg(test)]
@@ -100,6 +90,11 @@ mod tests {
             (SnLen::S12, 2048, 0, Some(0)),
             (SnLen::S12, 2049, 0, Some(4096)),
             (SnLen::S12, 0, 2048, None),
+            (SnLen::S12, 2047, 4095, None),
+            (SnLen::S12, 4_294_967_294, 4095, Some(4_294_967_295)),
+            (SnLen::S18, 131_072, 0, Some(0)),
+            (SnLen::S18, 131_073, 0, Some(262_144)),
+            (SnLen::S18, 4_294_967_295, 0, None),
         ];
         for (n, reference, sn, count) in rows {
             assert_eq!(rt; infer(n, reference, sn_of(n, sn)), count);

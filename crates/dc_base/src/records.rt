@@ -31,7 +31,7 @@ pub enum Item {
 }
 
 /// What a command changes: the items stand by ascending identity.
-#[derive(Debug, Drop)]
+#[derive(Clone, Debug, Drop, PartialEq, Eq)]
 pub struct Plan {
     pub g: Gen,
     /// The secondary node after the change.
@@ -39,8 +39,8 @@ pub struct Plan {
     pub items: Seq<Item>,
 }
 
-/// SN STATUS TRANSFER (TS 38.423, 8.2.4): what the old anchor tells the new one of a bearer.
-#[derive(Debug, Drop)]
+/// SN STATUS TRANSFER (TS 38.423, 8.2.2): what the old anchor tells the new one of a bearer.
+#[derive(Clone, Debug, Drop, PartialEq, Eq)]
 pub struct StatusTransfer {
     pub g: Gen,
     pub id: DrbId,
@@ -53,7 +53,7 @@ pub struct StatusTransfer {
 }
 
 /// A record between nodes. `key` is the field that is not printed.
-#[derive(Debug, Drop)]
+#[derive(Clone, Debug, Drop, PartialEq, Eq)]
 pub enum Rec {
     /// RRC reconfiguration, with the octets of the current root key.
     Reconf { plan: Plan, key: [u8; 32] },
@@ -148,11 +148,7 @@ impl Plan {
     pub fn copy(&self) -> Result<Plan, Memory>
         ensures { IfOk result (λ made. made ≡ self.now) }
     {
-        Ok(Plan {
-            g: self.g,
-            sec: self.sec,
-            items: self.items.copy()?,
-        })
+        Ok(self.clone()?)
     }
 }
 
@@ -161,62 +157,52 @@ impl StatusTransfer {
     pub fn copy(&self) -> Result<StatusTransfer, Memory>
         ensures { IfOk result (λ made. made ≡ self.now) }
     {
-        Ok(StatusTransfer {
-            g: self.g,
-            id: self.id,
-            ul: self.ul,
-            bits: self.bits.copy()?,
-            dl: self.dl,
-        })
+        Ok(self.clone()?)
     }
 }
 
 impl Rec {
+    ghost use Rattle.dc_base.specs.Records.{kind_of};
+
+    /// Which record it is.
+    pub fn kind(&self) -> RecKind
+        ensures { result ≡ kind_of self.now }
+    {
+        match self {
+            Rec::Reconf { .. } => RecKind::Reconf,
+            Rec::Rcomp { .. } => RecKind::Rcomp,
+            Rec::Scgf { .. } => RecKind::Scgf,
+            Rec::Recov { .. } => RecKind::Recov,
+            Rec::Recovd { .. } => RecKind::Recovd,
+            Rec::Addreq { .. } => RecKind::Addreq,
+            Rec::Addack { .. } => RecKind::Addack,
+            Rec::Addrej { .. } => RecKind::Addrej,
+            Rec::Modreq { .. } => RecKind::Modreq,
+            Rec::Modack { .. } => RecKind::Modack,
+            Rec::Modrej { .. } => RecKind::Modrej,
+            Rec::Recfg { .. } => RecKind::Recfg,
+            Rec::Relreq { .. } => RecKind::Relreq,
+            Rec::Relack { .. } => RecKind::Relack,
+            Rec::Relrej { .. } => RecKind::Relrej,
+            Rec::Uecr { .. } => RecKind::Uecr,
+            Rec::Snst { .. } => RecKind::Snst,
+            Rec::Moved { .. } => RecKind::Moved,
+            Rec::Scgn { .. } => RecKind::Scgn,
+            Rec::Modrqd => RecKind::Modrqd,
+            Rec::Modcnf { .. } => RecKind::Modcnf,
+            Rec::Modref { .. } => RecKind::Modref,
+            Rec::Chgrqd => RecKind::Chgrqd,
+            Rec::Chgcnf { .. } => RecKind::Chgcnf,
+            Rec::Chgref { .. } => RecKind::Chgref,
+            Rec::Relrqd => RecKind::Relrqd,
+            Rec::Relcnf { .. } => RecKind::Relcnf,
+        }
+    }
+
     /// An equal record.
     pub fn copy(&self) -> Result<Rec, Memory>
         ensures { IfOk result (λ made. made ≡ self.now) }
     {
-        Ok(match self {
-            Rec::Reconf { plan, key } => Rec::Reconf {
-                plan: plan.copy()?,
-                key: *key,
-            },
-            Rec::Rcomp { g } => Rec::Rcomp { g: *g },
-            Rec::Scgf { failed } => Rec::Scgf {
-                failed: failed.copy()?,
-            },
-            Rec::Recov { id } => Rec::Recov { id: *id },
-            Rec::Recovd { id } => Rec::Recovd { id: *id },
-            Rec::Addreq { plan, key } => Rec::Addreq {
-                plan: plan.copy()?,
-                key: *key,
-            },
-            Rec::Addack { g } => Rec::Addack { g: *g },
-            Rec::Addrej { g } => Rec::Addrej { g: *g },
-            Rec::Modreq { plan, key } => Rec::Modreq {
-                plan: plan.copy()?,
-                key: *key,
-            },
-            Rec::Modack { g } => Rec::Modack { g: *g },
-            Rec::Modrej { g } => Rec::Modrej { g: *g },
-            Rec::Recfg { g } => Rec::Recfg { g: *g },
-            Rec::Relreq { plan } => Rec::Relreq { plan: plan.copy()? },
-            Rec::Relack { g } => Rec::Relack { g: *g },
-            Rec::Relrej { g } => Rec::Relrej { g: *g },
-            Rec::Uecr { g } => Rec::Uecr { g: *g },
-            Rec::Snst { status } => Rec::Snst {
-                status: status.copy()?,
-            },
-            Rec::Moved { g, id } => Rec::Moved { g: *g, id: *id },
-            Rec::Scgn { id, g } => Rec::Scgn { id: *id, g: *g },
-            Rec::Modrqd => Rec::Modrqd,
-            Rec::Modcnf { g } => Rec::Modcnf { g: *g },
-            Rec::Modref { word } => Rec::Modref { word: *word },
-            Rec::Chgrqd => Rec::Chgrqd,
-            Rec::Chgcnf { plan } => Rec::Chgcnf { plan: plan.copy()? },
-            Rec::Chgref { word } => Rec::Chgref { word: *word },
-            Rec::Relrqd => Rec::Relrqd,
-            Rec::Relcnf { plan } => Rec::Relcnf { plan: plan.copy()? },
-        })
+        Ok(self.clone()?)
     }
 }
