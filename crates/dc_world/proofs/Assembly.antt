@@ -11,8 +11,9 @@ use Rattle.dc_base.specs.declared.nodes.Class.{Class}
 use Rattle.dc_base.specs.declared.nodes.Class.TheVariants.{Ctl, Feed, Air, Tun}
 use Rattle.dc_base.specs.declared.flights.Flight.{Flight}
 use Rattle.dc_base.specs.declared.events.Header.{Header}
+use Rattle.dc_base.specs.Links.{is_same_link}
 use Rattle.transcript.specs.Transcript.{Entry, sends}
-use Rattle.transcript.specs.Content.{is_same_link, without_taken, on_link, put_on, place_taken, mt_ctl, tm_ctl}
+use Rattle.transcript.specs.Content.{without_taken, on_link, put_on, place_taken, mt_ctl, tm_ctl}
 use Rattle.transcript.specs.Bearers.{Established, established, submitted, handed, confirmed, numbered, least_but, told, open_command}
 use Rattle.transcript.specs.Claims.{KeepsAll, HasCause, IsLicensed, IsQuiet, NoStall}
 use Rattle.transcript.proofs.OnEach.{each_append, each_remove, each_weaker}

@@ -18,10 +18,11 @@ use Rattle.dc_base.specs.declared.events.Event.TheVariants.{Bearer}
 use Rattle.dc_base.specs.declared.events.Line.TheVariants as line
 use Rattle.dc_base.specs.declared.events.Note.TheVariants as note
 use Rattle.pdcp_tx.specs.Sender.{low}
+use Rattle.dc_base.specs.Nodes.{is_mm}
 use Rattle.transcript.specs.Transcript.{Entry}
 use Rattle.transcript.specs.Content.{mt_ctl, tm_ctl}
 use Rattle.transcript.specs.Bearers.{change, recovery, OpenCommand, open_command, unless_opening, at_master, master_key, submitted, Established, established, established_by, generation, plans, plan_drawn, latest, is_set, at_terminal, key_in, confirms}
-use Rattle.transcript.specs.Claims.{is_mm, IsLicensed, HasCause}
+use Rattle.transcript.specs.Claims.{IsLicensed, HasCause}
 use Rattle.dc_world.specs.Entities.{fresh, bearer_in, with_bearer}
 use Rattle.dc_world.specs.Plane.{leg}
 use Rattle.dc_world.specs.Control.{Nodes, opened, plan_for}

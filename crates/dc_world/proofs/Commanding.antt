@@ -10,10 +10,11 @@ use Rattle.dc_base.specs.declared.answers.Refusal.{Refusal}
 use Rattle.dc_base.specs.declared.answers.Refusal.TheVariants.{NoBearer, BearerThere, Busy, NoSecondary, NoPolicy}
 use Rattle.dc_base.specs.declared.events.Header.{Header}
 use Rattle.dc_base.specs.declared.events.Event.TheVariants.{Bearer, Recover}
+use Rattle.dc_base.specs.Nodes.{is_mm}
 use Rattle.transcript.specs.Transcript.{Entry}
 use Rattle.transcript.specs.Content.{place_taken}
 use Rattle.transcript.specs.Bearers.{Established, OpenCommand, open_command, at_master}
-use Rattle.transcript.specs.Claims.{is_mm, bearer_answer, recover_answer}
+use Rattle.transcript.specs.Claims.{bearer_answer, recover_answer}
 use Rattle.dc_world.specs.Entities.{Entities, bearer_in}
 use Rattle.dc_world.specs.Control.{set_up, commanded, unless_open, recovered, recovery_commanded}
 use Rattle.dc_world.specs.Run.{WorldState}

@@ -11,8 +11,10 @@ use Rattle.dc_base.specs.declared.nodes.Class.TheVariants.{Ctl, Feed, Air, Tun}
 use Rattle.dc_base.specs.declared.nodes.LinkId.{LinkId}
 use Rattle.dc_base.specs.declared.flights.Flight.{Flight}
 use Rattle.dc_base.specs.declared.events.Line.{Line}
+use Rattle.dc_base.specs.Nodes.{node_number}
+use Rattle.dc_base.specs.Links.{class_number, is_same_link, link_number}
 use Rattle.transcript.specs.Transcript.{Entry, sends}
-use Rattle.transcript.specs.Content.{given, content, content_after, is_same_link, node_number, class_number, link_number, without_taken, on_link, put_on, place_taken}
+use Rattle.transcript.specs.Content.{given, content, content_after, without_taken, on_link, put_on, place_taken}
 use Rattle.std.specs.Option.{option_map}
 use Rattle.transcript.specs.Claims.{step_answer}
 use Rattle.dc_base.specs.declared.answers.Answer.TheVariants as answer

@@ -4,8 +4,10 @@ use Rattle.std.specs.Prelude.{◌&&◌, Contains}
 use Rattle.std.proofs.lemmas.Bool.{cases_Bool, eqb-true, eqb-false}
 use Rattle.dc_base.specs.declared.nodes.Dir.{Dir}
 use Rattle.dc_base.specs.declared.nodes.Dir.TheVariants.{Ul, Dl}
-use Rattle.transcript.specs.Content.{direction, is_same_link, reverse}
-use Rattle.transcript.specs.Bearers.{Established, is_same_dir, submitter, established}
+use Rattle.dc_base.specs.Nodes.{is_same_dir}
+use Rattle.dc_base.specs.Links.{is_same_link, reverse}
+use Rattle.transcript.specs.Content.{direction}
+use Rattle.transcript.specs.Bearers.{Established, submitter, established}
 use Rattle.transcript.proofs.Establishing.{IsOnce, same_bearer}
 use Rattle.dc_world.specs.Plane.{leg, other}
 use Rattle.dc_base.specs.declared.events.Header.{Header}

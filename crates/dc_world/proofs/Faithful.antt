@@ -14,8 +14,9 @@ use Rattle.dc_base.specs.declared.events.Header.{Header}
 use Rattle.dc_base.specs.declared.events.Event.{Event}
 use Rattle.dc_base.specs.declared.events.Event.TheVariants.{Bearer, Reshape, Remove, Add, Change, Release, RekeySecond, RekeyMaster, Recover, Report, Deny, Ask, ScgFail, Submit, Step, Lose, Again}
 use Rattle.dc_base.specs.declared.events.Line.TheVariants as line
+use Rattle.dc_base.specs.Links.{all_links, link_number}
 use Rattle.transcript.specs.Transcript.{Entry}
-use Rattle.transcript.specs.Content.{content, link_number, all_links, first_loaded}
+use Rattle.transcript.specs.Content.{content, first_loaded}
 use Rattle.transcript.specs.Bearers.{Established, established}
 use Rattle.transcript.specs.Claims.{IsDataFlight, IsOneUse, IsFaithful}
 use Rattle.transcript.proofs.Establishing.{IsOnce, same_bearer, generation_there}

@@ -6,8 +6,9 @@ use Rattle.std.proofs.lemmas.Bool.{cases_Bool, eq-eqb, and_from}
 use Rattle.dc_base.specs.declared.nodes.Dir.{Dir}
 use Rattle.dc_base.specs.declared.events.Line.{Line}
 use Rattle.pdcp_tx.specs.Sender.{low}
+use Rattle.dc_base.specs.Nodes.{is_same_dir}
 use Rattle.transcript.specs.Transcript.{sends}
-use Rattle.transcript.specs.Bearers.{Established, OpenCommand, is_same_dir, ends_command, has_after, up_of, freed_of}
+use Rattle.transcript.specs.Bearers.{Established, OpenCommand, ends_command, has_after, up_of, freed_of}
 use Rattle.dc_world.specs.Entities.{Entities}
 use Rattle.dc_world.specs.Plane.{freed_lines}
 use Rattle.dc_world.proofs.Directions.{Apart, same_dir, not_named}

@@ -21,9 +21,10 @@ use Rattle.pdcp_rx.specs.declared.entity.RxParts.{RxParts}
 use Rattle.pdcp_rx.specs.Receiver.{put, handed_of, Received}
 use Rattle.pdcp_rx.proofs.Laws.{Received-put, Received-put_same, handed_consecutive}
 use Rattle.pdcp_tx.specs.Sender.{Sender, low}
+use Rattle.dc_base.specs.Nodes.{is_same_dir}
 use Rattle.transcript.specs.Transcript.{Entry, sends, SomeEntry}
 use Rattle.transcript.specs.Content.{mt_ctl, tm_ctl, given, put_on, on_link, direction}
-use Rattle.transcript.specs.Bearers.{Established, established, latest, submitted, ups, handed, numbered, confirmed, confirms, confirmed_by, tag_of, tags_sent, frees, is_same_dir}
+use Rattle.transcript.specs.Bearers.{Established, established, latest, submitted, ups, handed, numbered, confirmed, confirms, confirmed_by, tag_of, tags_sent, frees}
 use Rattle.transcript.specs.Claims.{TakesData, Carried, receiver, due_answer, step_answer, is_behind as is_behind_in, is_aged as is_aged_in}
 use Rattle.transcript.proofs.OnEach.{each_weaker}
 use Rattle.transcript.proofs.Growing.{SomeEntry-later, SomeEntry-last}

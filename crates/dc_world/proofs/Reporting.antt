@@ -19,8 +19,9 @@ use Rattle.pdcp_pdu.specs.Pdu.{report, decoded}
 use Rattle.pdcp_tx.specs.Sender.{Sender, low}
 use Rattle.pdcp_tx.specs.Sending.{reported as without_named}
 use Rattle.pdcp_rx.specs.Receiver.{Received}
+use Rattle.dc_base.specs.Links.{is_to}
 use Rattle.transcript.specs.Transcript.{Entry, sends}
-use Rattle.transcript.specs.Content.{mt_ctl, tm_ctl, is_to, given, on_link}
+use Rattle.transcript.specs.Content.{mt_ctl, tm_ctl, given, on_link}
 use Rattle.transcript.specs.Bearers.{Established, reported, established, submitted, ups, freed_of, frees, read_of, confirmed_by, confirms, confirmed, tag_of, tags_sent, at_submitter, submitter}
 use Rattle.transcript.specs.Claims.{step_answer, HasCause}
 use Rattle.transcript.proofs.Establishing.{is_latest_once, is_generation_once}

@@ -16,8 +16,9 @@ use Rattle.dc_base.specs.declared.events.Event.{Event}
 use Rattle.dc_base.specs.declared.events.Line.TheVariants as line
 use Rattle.pdcp_pdu.specs.DataPdu.{IsPayload, data_pdu}
 use Rattle.pdcp_tx.specs.Sender.{low}
+use Rattle.dc_base.specs.Links.{is_same_link}
 use Rattle.transcript.specs.Transcript.{Entry, sends}
-use Rattle.transcript.specs.Content.{is_same_link, put_on, place_taken, without_taken}
+use Rattle.transcript.specs.Content.{put_on, place_taken, without_taken}
 use Rattle.transcript.specs.Bearers.{OpenCommand, Established, established, generation, submission, submitted, confirms, confirmed, is_confirmed, up_of, freed_of, tag_of, opens, open_command, is_set, key_in, master_key}
 use Rattle.transcript.specs.Claims.{Protects, ProtectsSubmission, IsDataFlight, IsProtected, IsReason, IsLicensed, HasCause, MakesRecover, SentAgain, is_uncounted}
 use Rattle.dc_world.specs.Entities.{Entities, bearer_in}

@@ -9,8 +9,9 @@ use Rattle.dc_base.specs.declared.nodes.LinkId.{LinkId}
 use Rattle.dc_base.specs.declared.flights.Flight.{Flight}
 use Rattle.dc_base.specs.declared.events.Header.{Header}
 use Rattle.pdcp_tx.specs.Sender.{low, Rises}
+use Rattle.dc_base.specs.Links.{is_same_link}
 use Rattle.transcript.specs.Transcript.{sends}
-use Rattle.transcript.specs.Content.{is_same_link, put_on}
+use Rattle.transcript.specs.Content.{put_on}
 use Rattle.transcript.specs.Bearers.{OpenCommand, Established, up_of, freed_of, tag_of, ends_command, has_after}
 use Rattle.transcript.specs.Claims.{AscendsFrom, count_in, is_uncounted}
 use Rattle.dc_world.specs.Plane.{leg, data_flight, resends}

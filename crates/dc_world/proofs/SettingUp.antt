@@ -10,9 +10,9 @@ use Rattle.dc_base.specs.declared.records.Rec.TheVariants.{Reconf, Rcomp, Recov,
 use Rattle.dc_base.specs.declared.answers.Answer.TheVariants as answer
 use Rattle.dc_base.specs.declared.events.Header.{Header}
 use Rattle.dc_base.specs.declared.events.Event.TheVariants.{Bearer, Step}
+use Rattle.dc_base.specs.Nodes.{is_mm}
 use Rattle.transcript.specs.Transcript.{Entry}
 use Rattle.transcript.specs.Content.{mt_ctl, tm_ctl}
-use Rattle.transcript.specs.Claims.{is_mm}
 use Rattle.dc_world.specs.Entities.{bearer_in}
 use Rattle.dc_world.specs.Control.{plan_for, set_up, told_terminal, told_master}
 use Rattle.dc_world.specs.Links.{on}

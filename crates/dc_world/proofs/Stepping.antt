@@ -23,9 +23,10 @@ use Rattle.dc_base.specs.declared.events.Header.{Header}
 use Rattle.dc_base.specs.declared.events.Event.{Event}
 use Rattle.dc_base.specs.declared.events.Event.TheVariants.{Step}
 use Rattle.dc_base.specs.declared.events.Line.{Line}
+use Rattle.dc_base.specs.Links.{is_ordered, is_tunnel, link}
 use Rattle.transcript.specs.Transcript.{Entry}
-use Rattle.transcript.specs.Content.{content, link, mt_ctl, tm_ctl, place_taken}
-use Rattle.transcript.specs.Claims.{is_ordered, is_tunnel, step_answer, tunnel_answer}
+use Rattle.transcript.specs.Content.{content, mt_ctl, tm_ctl, place_taken}
+use Rattle.transcript.specs.Claims.{step_answer, tunnel_answer}
 use Rattle.transcript.proofs.OnEach.{each_at}
 use Rattle.dc_world.specs.Entities.{Table}
 use Rattle.dc_world.specs.Plane.{Outcome, leg, other, air_taken, is_aged}

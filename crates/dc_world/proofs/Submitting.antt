@@ -17,9 +17,11 @@ use Rattle.pdcp_pdu.specs.DataPdu.{IsPayload, data_pdu}
 use Rattle.pdcp_tx.specs.Sender.{Sender, low}
 use Rattle.pdcp_tx.specs.Sending.{taken}
 use Rattle.pdcp_rx.specs.Receiver.{Received}
+use Rattle.dc_base.specs.Nodes.{is_same_dir}
+use Rattle.dc_base.specs.Links.{is_same_link}
 use Rattle.transcript.specs.Transcript.{Entry, sends}
-use Rattle.transcript.specs.Content.{mt_ctl, tm_ctl, put_on, is_same_link}
-use Rattle.transcript.specs.Bearers.{Established, established, is_same_dir, submission, submitted, confirms, confirmed, tag_of, told, at_submitter, master_key, key_in}
+use Rattle.transcript.specs.Content.{mt_ctl, tm_ctl, put_on}
+use Rattle.transcript.specs.Bearers.{Established, established, submission, submitted, confirms, confirmed, tag_of, told, at_submitter, master_key, key_in}
 use Rattle.transcript.specs.Claims.{Protects, ProtectsSubmission, IsLicensed, submit_answer}
 use Rattle.dc_world.specs.Entities.{Entities, bearer_in, with_bearer}
 use Rattle.dc_world.specs.Plane.{leg, ciphered, data_flight}

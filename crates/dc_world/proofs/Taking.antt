@@ -21,13 +21,13 @@ use Rattle.pdcp_pdu.specs.DataPdu.{IsPayload, data_pdu}
 use Rattle.pdcp_pdu.specs.Pdu.{sdu, decoded, read_data}
 use Rattle.pdcp_pdu.proofs.Reading.{data_again}
 use Rattle.pdcp_rx.specs.Receiver.{put, handed_of}
+use Rattle.dc_base.specs.Links.{is_to}
 use Rattle.transcript.specs.Text.{is_data}
 use Rattle.transcript.specs.Transcript.{Entry}
 use Rattle.transcript.specs.Bearers.{Established, master_key, confirmed_by, read_of, is_generation_of, submitter}
 use Rattle.dc_world.specs.Entities.{Entities}
 use Rattle.dc_world.specs.Plane.{ciphered, data_flight, flight_taken, pdu_taken, with_count, sdu_taken, up_line, ack_line}
 use lib.Bits.{xor_assoc}
-use Rattle.transcript.specs.Content.{is_to}
 
 -- a number combined twice with the same is as before
 xor_twice : (x k : ℕ) → bit_xor (bit_xor x k) k ≡ x

@@ -4,8 +4,9 @@ use Rattle.std.specs.Prelude.{if◌then◌else◌, ◌&&◌, fold}
 use Rattle.std.specs.List.{flat_map}
 use Rattle.dc_base.specs.declared.nodes.Dir.{Dir}
 use Rattle.dc_base.specs.declared.events.Line.{Line}
+use Rattle.dc_base.specs.Nodes.{is_same_dir}
 use Rattle.transcript.specs.Transcript.{sends}
-use Rattle.transcript.specs.Bearers.{OpenCommand, Established, up_of, freed_of, is_same_dir, ends_command, has_after}
+use Rattle.transcript.specs.Bearers.{OpenCommand, Established, up_of, freed_of, ends_command, has_after}
 use Rattle.dc_world.specs.Plane.{up_line}
 
 module _ (id : ℕ) (d : Dir) (last : List Line) where

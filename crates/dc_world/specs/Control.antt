@@ -16,9 +16,9 @@ use Rattle.dc_base.specs.declared.events.Header.{Header}
 use Rattle.dc_base.specs.declared.events.Line.{Line}
 use Rattle.dc_base.specs.declared.events.Line.TheVariants as line
 use Rattle.dc_base.specs.declared.events.Note.TheVariants as note
+use Rattle.dc_base.specs.Nodes.{is_mm}
 use Rattle.transcript.specs.Content.{mt_ctl, tm_ctl}
 use Rattle.transcript.specs.Bearers.{Established, OpenCommand, change, recovery, master_key}
-use Rattle.transcript.specs.Claims.{is_mm}
 use Rattle.dc_world.specs.Entities.{Entities, Table, fresh, no_bearers, bearer_in, with_bearer}
 use Rattle.dc_world.specs.Plane.{Outcome, recovers}
 

@@ -4,8 +4,8 @@ use Rattle.std.specs.List.{find}
 use Rattle.dc_base.specs.declared.nodes.LinkId.{LinkId}
 use Rattle.dc_base.specs.declared.flights.Flight.{Flight}
 use Rattle.dc_base.specs.declared.events.Line.{Line}
+use Rattle.dc_base.specs.Links.{all_links, link_number}
 use Rattle.transcript.specs.Transcript.{sends}
-use Rattle.transcript.specs.Content.{link_number, all_links}
 
 -- what stands on the links, by their numbers
 abbrev pub Links : Type 0

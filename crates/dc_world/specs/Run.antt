@@ -17,9 +17,9 @@ use Rattle.dc_base.specs.declared.events.Event.TheVariants.{Bearer, Recover, Rep
 use Rattle.dc_base.specs.declared.events.Line.{Line}
 use Rattle.dc_base.specs.declared.events.Line.TheVariants as line
 use Rattle.pdcp_pdu.specs.DataPdu.{IsPayload}
+use Rattle.dc_base.specs.Links.{is_ordered, is_tunnel}
 use Rattle.transcript.specs.Transcript.{Entry, sends, entry_lines}
 use Rattle.transcript.specs.Content.{place_taken}
-use Rattle.transcript.specs.Claims.{is_ordered, is_tunnel}
 use Rattle.dc_world.specs.Entities.{Entities, Table, no_bearers, bearer_in, with_bearer}
 use Rattle.dc_world.specs.Plane.{Outcome, submitted, air_taken, is_aged, reports}
 use Rattle.dc_world.specs.Control.{Nodes, new_nodes, commanded, unless_open, recovery_commanded, told_terminal, told_master}

@@ -65,9 +65,7 @@ impl Ciphering {
         ensures value { IfOk result (λ made. made ≡ ciphered self.now id dir count text.now) }
         ensures len { IfOk result (λ made. length made ≡ length text.now) }
     {
-        let Ok(mut octets) = Vec::from_slice(self.alloc, text) else {
-            return Err(Memory);
-        };
+        let mut octets = Vec::from_slice(self.alloc, text)?;
         nea(
             self.header.alg,
             &self.key,

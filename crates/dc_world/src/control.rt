@@ -7,13 +7,12 @@ ghost use Rattle.dc_base.specs.declared.records.Rec.TheVariants.{Reconf, Rcomp, 
 ghost use Rattle.dc_base.specs.declared.events.Line.TheVariants as line;
 ghost use Rattle.dc_base.specs.declared.events.Note.TheVariants as note;
 ghost use Rattle.transcript.specs.Content.{mt_ctl, tm_ctl};
-ghost use Rattle.transcript.specs.Claims.{is_mm};
 ghost use Rattle.dc_world.specs.Control.{plan_for};
 
 use crate::ciphering::Ciphering;
 use dc_base::{
-    Class, DrbId, Flight, Gen, Item, KeyName, LegSet, Line, LinkId, Memory, Node, Note, Plan, Rec,
-    Seq, Shape, Side, SnLen,
+    Class, DrbId, Flight, Gen, Item, KeyName, Line, LinkId, Memory, Node, Note, Plan, Rec, Seq,
+    Shape, Side, SnLen,
 };
 use std::alloc::Global;
 
@@ -28,16 +27,6 @@ pub struct NewBearer {
     /// Octets.
     pub threshold: u32,
     pub policy: u8,
-}
-
-/// Whether the shape has its anchor and its only leg at the master.
-pub fn is_mm(shape: Shape) -> bool
-    ensures { result ≡ is_mm shape }
-{
-    match shape.legs {
-        LegSet::Mcg => !shape.at_second,
-        _ => false,
-    }
 }
 
 // The control link from the master to the terminal.

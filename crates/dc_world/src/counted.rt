@@ -75,15 +75,9 @@ fn counts_of(line: &Line) -> Counts
 fn sum_of(one: Counts, other: Counts) -> Result<Counts, Memory>
     ensures { IfOk result (λ sum. sum ≡ record { events = one.events + other.events; flights = one.flights + other.flights; octets = one.octets + other.octets }) }
 {
-    let Some(events) = one.events.checked_add(other.events) else {
-        return Err(Memory);
-    };
-    let Some(flights) = one.flights.checked_add(other.flights) else {
-        return Err(Memory);
-    };
-    let Some(octets) = one.octets.checked_add(other.octets) else {
-        return Err(Memory);
-    };
+    let events = one.events.checked_add(other.events).ok_or(Memory)?;
+    let flights = one.flights.checked_add(other.flights).ok_or(Memory)?;
+    let octets = one.octets.checked_add(other.octets).ok_or(Memory)?;
     Ok(Counts {
         events,
         flights,

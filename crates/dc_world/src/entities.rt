@@ -130,10 +130,8 @@ impl PdcpEntities {
     fn note_sent(&mut self, tag: Tag) -> Result<(), Memory>
         ensures { OnOk result (self.new ≡ record self.old { sent = self.old.sent ++ tag ∷ [] }) }
     {
-        match self.sent.push(tag) {
-            Ok(()) => Ok(()),
-            Err(_) => Err(Memory),
-        }
+        self.sent.push(tag)?;
+        Ok(())
     }
 
     // Sends the data PDU of a payload with this COUNT; its line comes after these. After `Memory` the bearer is not used

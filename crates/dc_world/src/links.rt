@@ -3,11 +3,11 @@
 ghost use Rattle.std.specs.Prelude.{◌≡◌, ℕ, ◌<◌, ◌++◌, ◌∷◌, [], length, fold, remove, slice_get, nat_lt, IfOk, OnOk};
 ghost use Rattle.std.specs.List.{find};
 ghost use Rattle.std.specs.Option.{option_copied};
-ghost use Rattle.transcript.specs.Content.{node_number, class_number, link_number, all_links};
+ghost use Rattle.dc_base.specs.Links.{all_links};
 ghost use Rattle.transcript.specs.Transcript.{sends};
 ghost use Rattle.dc_world.specs.Links.{no_links, on, put_on_one, taken_out, first_nonempty};
 
-use dc_base::{Class, Flight, Line, LinkId, Memory, Node};
+use dc_base::{Flight, Line, LinkId, Memory};
 use std::alloc::Global;
 use std::collections::VecDeque;
 use std::marker::Model;
@@ -59,10 +59,8 @@ impl Link {
     fn put(&mut self, flight: Flight) -> Result<(), Memory>
         ensures { OnOk result (self.new ≡ self.old ++ flight ∷ []) }
     {
-        match self.flights.push_back(flight) {
-            Ok(()) => Ok(()),
-            Err(_) => Err(Memory),
-        }
+        self.flights.push_back(flight)?;
+        Ok(())
     }
 }
 
@@ -86,76 +84,6 @@ impl Model for LinkSet {
     ghost invariant = { λ a. length a.links.items ≡ 64 };
 }
 
-// The number of a node.
-fn node_number(node: Node) -> usize
-    ensures value { result ≡ node_number node }
-    ensures small { result < 4 }
-{
-    match node {
-        Node::T => 0,
-        Node::M => 1,
-        Node::A => 2,
-        Node::B => 3,
-    }
-}
-
-// The number of a class.
-fn class_number(class: Class) -> usize
-    ensures value { result ≡ class_number class }
-    ensures small { result < 4 }
-{
-    match class {
-        Class::Ctl => 0,
-        Class::Feed => 1,
-        Class::Air => 2,
-        Class::Tun => 3,
-    }
-}
-
-// The number of a link.
-fn link_number(link: LinkId) -> usize
-    ensures value { result ≡ link_number link }
-    ensures small { result < 64 }
-{
-    node_number(link.from) + 4 * node_number(link.to) + 16 * class_number(link.class)
-}
-
-fn link_of(from: Node, to: Node, class: Class) -> LinkId
-    ensures { result ≡ record { from = from; to = to; class = class } }
-{
-    LinkId { from, to, class }
-}
-
-// All links, in their order.
-fn all_links() -> [LinkId; 22]
-    ensures { result ≡ all_links }
-{
-    [
-        link_of(Node::M, Node::T, Class::Ctl),
-        link_of(Node::T, Node::M, Class::Ctl),
-        link_of(Node::M, Node::A, Class::Ctl),
-        link_of(Node::A, Node::M, Class::Ctl),
-        link_of(Node::M, Node::B, Class::Ctl),
-        link_of(Node::B, Node::M, Class::Ctl),
-        link_of(Node::M, Node::A, Class::Feed),
-        link_of(Node::A, Node::M, Class::Feed),
-        link_of(Node::M, Node::B, Class::Feed),
-        link_of(Node::B, Node::M, Class::Feed),
-        link_of(Node::M, Node::T, Class::Air),
-        link_of(Node::T, Node::M, Class::Air),
-        link_of(Node::A, Node::T, Class::Air),
-        link_of(Node::T, Node::A, Class::Air),
-        link_of(Node::B, Node::T, Class::Air),
-        link_of(Node::T, Node::B, Class::Air),
-        link_of(Node::M, Node::A, Class::Tun),
-        link_of(Node::A, Node::M, Class::Tun),
-        link_of(Node::M, Node::B, Class::Tun),
-        link_of(Node::B, Node::M, Class::Tun),
-        link_of(Node::A, Node::B, Class::Tun),
-        link_of(Node::B, Node::A, Class::Tun),
-    ]
-}
-
 impl LinkSet {
     /// All links, with no flight on any.
     pub fn new(alloc: Global) -> Result<LinkSet, Memory>
@@ -163,10 +91,7 @@ impl LinkSet {
     {
         let mut links = Vec::new(alloc);
         for _place in 0..64usize {
-            let empty = Link::new(alloc);
-            if links.push(empty).is_err() {
-                return Err(Memory);
-            }
+            links.push(Link::new(alloc))?;
         }
         Ok(LinkSet { links })
     }
@@ -175,21 +100,21 @@ impl LinkSet {
     pub fn len(&self, link: LinkId) -> usize
         ensures { result ≡ length (on self.now link) }
     {
-        self.links[link_number(link)].len()
+        self.links[link.number()].len()
     }
 
     /// The flight at this place of a link, from 0: `None` exactly where `index` is not below the length.
     pub fn flight(&self, link: LinkId, index: usize) -> Option<&Flight>
         ensures { option_copied result ≡ slice_get (on self.now link) index }
     {
-        self.links[link_number(link)].flight(index)
+        self.links[link.number()].flight(index)
     }
 
     /// Puts a flight at the end of a link. After `Memory` the links are not used again.
     pub fn put(&mut self, link: LinkId, flight: Flight) -> Result<(), Memory>
         ensures { OnOk result (self.new ≡ put_on_one self.old (link, flight)) }
     {
-        self.links[link_number(link)].put(flight)
+        self.links[link.number()].put(flight)
     }
 
     /// The flight at a place is taken away, if there is such a place.
@@ -197,7 +122,7 @@ impl LinkSet {
         ensures { self.new ≡ taken_out self.old place }
     {
         if let Some((link, index)) = place {
-            self.links[link_number(link)].take_out(index as usize);
+            self.links[link.number()].take_out(index as usize);
         }
     }
 
@@ -229,6 +154,6 @@ impl LinkSet {
     pub fn first_nonempty(&self) -> Option<LinkId>
         ensures { result ≡ first_nonempty self.now }
     {
-        self.first_of(&all_links())
+        self.first_of(&LinkId::all())
     }
 }

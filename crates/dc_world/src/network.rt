@@ -3,7 +3,6 @@
 ghost use Rattle.std.specs.Prelude.{◌≡◌, ◌+◌, ◌-◌, ◌<◌, ◌≤◌, ◌^◌, ◌∷◌, [], length, slice_get, is_some, IfOk};
 ghost use Rattle.std.specs.Option.{option_copied};
 ghost use Rattle.transcript.specs.Content.{place_taken};
-ghost use Rattle.transcript.specs.Claims.{is_ordered, is_tunnel};
 ghost use Rattle.dc_world.specs.Links.{on, first_nonempty};
 ghost use Rattle.dc_world.specs.Serving.{serves};
 ghost use Rattle.dc_world.specs.Run.{new_world, IsGood, stepped, tunnelled, decided, happen};
@@ -13,7 +12,7 @@ use crate::control::NewBearer;
 use crate::links::LinkSet;
 use crate::nodes::NodePair;
 use crate::plane::{Outcome, refused};
-use dc_base::{Alg, Answer, Class, DrbId, Event, Flight, Line, LinkId, Memory, Node, Refusal, Seq};
+use dc_base::{Alg, Answer, DrbId, Event, Flight, Line, LinkId, Memory, Node, Refusal, Seq};
 use std::alloc::Global;
 use std::marker::Model;
 
@@ -31,26 +30,6 @@ impl Model for Network {
     ghost Value = { WorldState };
 
     ghost view = { λ a. record { header = a.ciphering; nodes = a.nodes; links = a.links } };
-}
-
-// Whether a link of this class keeps its order.
-fn is_ordered(class: Class) -> bool
-    ensures { result ≡ is_ordered class }
-{
-    match class {
-        Class::Ctl | Class::Feed => true,
-        Class::Air | Class::Tun => false,
-    }
-}
-
-// Whether a link of this class may lose flights and repeat them.
-fn is_tunnel(class: Class) -> bool
-    ensures { result ≡ is_tunnel class }
-{
-    match class {
-        Class::Tun => true,
-        _ => false,
-    }
 }
 
 // The place from which an event takes a flight: a step gives it or finds it aged, a loss loses it.
@@ -106,7 +85,7 @@ impl Network {
         let Some(flight) = self.links.flight(link, index as usize) else {
             return Ok(refused(self.ciphering.alloc(), Refusal::NoFlight));
         };
-        if is_ordered(link.class) && 0 < index {
+        if link.class.is_ordered() && 0 < index {
             return Ok(refused(self.ciphering.alloc(), Refusal::NotFirst));
         }
         if self.nodes.is_aged(link.to, flight) {
@@ -121,7 +100,7 @@ impl Network {
         ensures { (self.now.nodes, result) ≡ tunnelled self.now link (slice_get (on self.now.links link) index) (λ _. []) }
     {
         let alloc = self.ciphering.alloc();
-        if !is_tunnel(link.class) {
+        if !link.class.is_tunnel() {
             return refused(alloc, Refusal::NotTunnel);
         }
         match self.links.flight(link, index as usize) {
@@ -135,7 +114,7 @@ impl Network {
         ensures { IfOk result (λ outcome. (self.now.nodes, outcome) ≡ tunnelled self.now link (slice_get (on self.now.links link) index) (λ flight. Line.Send link flight ∷ [])) }
     {
         let alloc = self.ciphering.alloc();
-        if !is_tunnel(link.class) {
+        if !link.class.is_tunnel() {
             return Ok(refused(alloc, Refusal::NotTunnel));
         }
         match self.links.flight(link, index as usize) {

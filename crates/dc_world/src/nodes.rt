@@ -11,7 +11,7 @@ ghost use Rattle.dc_world.specs.Run.{submission, report_of, table_at, taken_from
 use crate::busy::Busy;
 use crate::ciphering::Ciphering;
 use crate::control::{
-    NewBearer, complete_line, done_lines, is_mm, recover_line, recovered_line, set_up_lines,
+    NewBearer, complete_line, done_lines, recover_line, recovered_line, set_up_lines,
 };
 use crate::entities::PdcpEntities;
 use crate::plane::{Outcome, refused};
@@ -101,7 +101,7 @@ impl NodePair {
         if self.master.generation(new.id).is_some() {
             return Ok(refused(ciphering.alloc(), Refusal::BearerThere));
         }
-        if !is_mm(new.shape) {
+        if !new.shape.is_mm() {
             return Ok(refused(ciphering.alloc(), Refusal::NoSecondary));
         }
         if policies <= new.policy as usize {

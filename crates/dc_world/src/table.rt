@@ -40,9 +40,7 @@ impl Bearers {
     {
         let mut slots = Vec::new(alloc);
         for _place in 0..33usize {
-            if slots.push(None).is_err() {
-                return Err(Memory);
-            }
+            slots.push(None)?;
         }
         Ok(Bearers { slots })
     }

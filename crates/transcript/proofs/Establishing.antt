@@ -19,11 +19,13 @@ use Rattle.dc_base.specs.declared.answers.Answer.TheVariants.{Ok}
 use Rattle.dc_base.specs.declared.events.Event.{Event}
 use Rattle.dc_base.specs.declared.events.Event.TheVariants.{Bearer, Submit}
 use Rattle.dc_base.specs.declared.flights.Flight.TheVariants as flight
+use Rattle.dc_base.specs.Nodes.{is_same_dir}
+use Rattle.dc_base.specs.Links.{is_to, reverse}
 use Rattle.transcript.specs.Transcript.{Entry, sends, gathered}
 use Rattle.dc_base.specs.declared.nodes.Node.TheVariants.{T, M}
 use Rattle.pdcp_pdu.specs.Pdu.{decoded}
-use Rattle.transcript.specs.Bearers.{OpenCommand, acked, read_of, Established, established, established_by, generation, is_draw, plans, plan_drawn, latest, is_latest, is_generation_of, submission, submitted, ups, handed, confirms, confirmed, tag_of, tags_sent, command_after, open_command, has_after, is_set, key_in, key_of_item, open_from, is_named, plan_of, is_draw_of, submission_of, confirmed_by, up_of, is_same_dir}
-use Rattle.transcript.specs.Content.{given, is_to, reverse}
+use Rattle.transcript.specs.Bearers.{OpenCommand, acked, read_of, Established, established, established_by, generation, is_draw, plans, plan_drawn, latest, is_latest, is_generation_of, submission, submitted, ups, handed, confirms, confirmed, tag_of, tags_sent, command_after, open_command, has_after, is_set, key_in, key_of_item, open_from, is_named, plan_of, is_draw_of, submission_of, confirmed_by, up_of}
+use Rattle.transcript.specs.Content.{given}
 use Rattle.transcript.proofs.Growing.{gathered-next}
 use Rattle.transcript.proofs.Lists.{by_pushes, contains_kept, contains_one, contains-none}
 

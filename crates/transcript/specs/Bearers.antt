@@ -22,8 +22,10 @@ use Rattle.dc_base.specs.declared.events.Note.TheVariants.{Set as SetNote, Unset
 use Rattle.dc_base.specs.declared.records.Item.{Item}
 use Rattle.dc_base.specs.declared.records.Item.TheVariants.{Set, Unset}
 use Rattle.dc_base.specs.declared.records.Plan.{Plan}
+use Rattle.dc_base.specs.Nodes.{is_same_dir}
+use Rattle.dc_base.specs.Links.{is_same_link, is_to, reverse}
 use Rattle.transcript.specs.Transcript.{Entry, sends, gathered}
-use Rattle.transcript.specs.Content.{is_same_link, is_to, reverse, given}
+use Rattle.transcript.specs.Content.{given}
 use Rattle.pdcp_pdu.specs.Bitmap.{names}
 use Rattle.pdcp_pdu.specs.Pdu.{Content, report, decoded}
 use Rattle.pdcp_pdu.specs.declared.pdu.PduErr.{PduErr}
@@ -34,12 +36,6 @@ pub record Established : Type 0 where
   pub id : ℕ
   pub n : SnLen
   pub first : ℕ  -- the COUNT of its first submission in both directions
-
--- both directions are uplink, or both are downlink
-abbrev pub is_same_dir : Dir → Dir → Bool
-is_same_dir Ul Ul = true
-is_same_dir Dl Dl = true
-is_same_dir _ _ = false
 
 -- whether an entry draws the next generation
 abbrev pub is_draw_of : Event → Answer → Bool

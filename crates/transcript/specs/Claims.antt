@@ -4,13 +4,9 @@ use Rattle.std.specs.List.{AllByRecursion, flat_map}
 use Rattle.dc_base.specs.Count.{window, sn}
 use Rattle.dc_base.specs.declared.nodes.Node.{Node}
 use Rattle.dc_base.specs.declared.nodes.Node.TheVariants.{T, M}
-use Rattle.dc_base.specs.declared.nodes.Class.{Class}
-use Rattle.dc_base.specs.declared.nodes.Class.TheVariants.{Ctl, Feed, Air, Tun}
 use Rattle.dc_base.specs.declared.nodes.Dir.{Dir}
 use Rattle.dc_base.specs.declared.nodes.Dir.TheVariants.{Ul, Dl}
 use Rattle.dc_base.specs.declared.nodes.KeyName.{KeyName}
-use Rattle.dc_base.specs.declared.nodes.LegSet.{LegSet}
-use Rattle.dc_base.specs.declared.nodes.LegSet.TheVariants.{Mcg, Scg, Split}
 use Rattle.dc_base.specs.declared.nodes.Shape.{Shape}
 use Rattle.dc_base.specs.declared.nodes.LinkId.{LinkId}
 use Rattle.dc_base.specs.declared.flights.Flight.{Flight}
@@ -28,9 +24,11 @@ use Rattle.nea2.specs.Combined.{combined}
 use Rattle.nea2.specs.Keystream.{keystream}
 use Rattle.key_chain.specs.KeyNames.{upenc}
 use Rattle.pdcp_pdu.specs.DataPdu.{data_pdu}
+use Rattle.dc_base.specs.Nodes.{is_mm}
+use Rattle.dc_base.specs.Links.{reverse, is_ordered, is_tunnel}
 use Rattle.transcript.specs.Text.{is_data}
 use Rattle.transcript.specs.Transcript.{Entry, sends, Each, SomeEntry}
-use Rattle.transcript.specs.Content.{mt_ctl, tm_ctl, air_link, reverse, direction, content, given}
+use Rattle.transcript.specs.Content.{mt_ctl, tm_ctl, air_link, direction, content, given}
 use Rattle.transcript.specs.Bearers.{Established, established, latest, is_generation_of, plans, plan_drawn, key_in, roots, submitted, ups, handed, numbered, frees, told, confirmed, is_confirmed, open_command, at_master, at_node, at_submitter, submitter}
 
 -- the flight is a data PDU of the bearer in this direction
@@ -122,28 +120,6 @@ NoStall before e = let t = before ++ e ∷ [] in IsQuiet t → open_command t �
 -- and so of every bearer
 abbrev pub KeepsAll : Header → List Entry → Entry → Type 0
 KeepsAll h before e = (b : Established) (d : Dir) → Contains (established (before ++ e ∷ [])) b → IsKept h b d before e
-
--- whether the link keeps its order
-abbrev pub is_ordered : Class → Bool
-is_ordered Ctl = true
-is_ordered Feed = true
-is_ordered Air = false
-is_ordered Tun = false
-
--- whether the link may lose flights and repeat them
-abbrev pub is_tunnel : Class → Bool
-is_tunnel Tun = true
-is_tunnel _ = false
-
--- whether the master's cell group has the only leg
-abbrev pub is_mcg : LegSet → Bool
-is_mcg Mcg = true
-is_mcg Scg = false
-is_mcg (Split primary) = false
-
--- whether the shape has its anchor and its only leg at the master: so it needs no secondary
-abbrev pub is_mm : Shape → Bool
-is_mm shape = not shape.at_second && is_mcg shape.legs
 
 -- the answer that a new bearer is due where there are so many policies; there is no secondary
 abbrev pub bearer_answer : ℕ → List Entry → ℕ → Shape → ℕ → Answer

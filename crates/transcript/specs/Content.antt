@@ -1,14 +1,15 @@
 -- What stands on each link.
-use Rattle.std.specs.Prelude.{ℕ, ◌+◌, ◌*◌, ◌==◌, nat_lt, if◌then◌else◌, Bool, List, [], ◌∷◌, ◌++◌, length, fold, remove, slice_get, Option, Some, None}
+use Rattle.std.specs.Prelude.{ℕ, nat_lt, if◌then◌else◌, Bool, List, [], ◌∷◌, ◌++◌, length, fold, remove, slice_get, Option, Some, None}
 use Rattle.std.specs.List.{find, flat_map}
 use Rattle.std.specs.Option.{option_map}
 use Rattle.dc_base.specs.declared.nodes.Node.{Node}
-use Rattle.dc_base.specs.declared.nodes.Node.TheVariants.{T, M, A, B}
+use Rattle.dc_base.specs.declared.nodes.Node.TheVariants.{T, M}
 use Rattle.dc_base.specs.declared.nodes.Class.{Class}
-use Rattle.dc_base.specs.declared.nodes.Class.TheVariants.{Ctl, Feed, Air, Tun}
+use Rattle.dc_base.specs.declared.nodes.Class.TheVariants.{Ctl, Air}
 use Rattle.dc_base.specs.declared.nodes.Dir.{Dir}
 use Rattle.dc_base.specs.declared.nodes.Dir.TheVariants.{Ul, Dl}
 use Rattle.dc_base.specs.declared.nodes.LinkId.{LinkId}
+use Rattle.dc_base.specs.Links.{link, all_links, is_same_link}
 use Rattle.dc_base.specs.declared.flights.Flight.{Flight}
 use Rattle.dc_base.specs.declared.answers.Answer.{Answer}
 use Rattle.dc_base.specs.declared.answers.Answer.TheVariants.{Ok, No}
@@ -18,56 +19,26 @@ use Rattle.dc_base.specs.declared.events.Event.TheVariants.{Step, Lose}
 use Rattle.dc_base.specs.declared.events.Line.{Line}
 use Rattle.transcript.specs.Transcript.{Entry, sends}
 
--- links are told apart by numbers
-abbrev pub node_number : Node → ℕ
-node_number T = 0
-node_number M = 1
-node_number A = 2
-node_number B = 3
-
--- the number of a class of links: no two classes have the same
-abbrev pub class_number : Class → ℕ
-class_number Ctl = 0
-class_number Feed = 1
-class_number Air = 2
-class_number Tun = 3
-
--- the number of a link, from its two ends and its class: no two links have the same
-abbrev pub link_number : LinkId → ℕ
-link_number l = node_number l.from + 4 * node_number l.to + 16 * class_number l.class
-
--- both links have the same sender, receiver and class
-abbrev pub is_same_link : LinkId → LinkId → Bool
-is_same_link l k = link_number l == link_number k
-
--- the links between the terminal and the master
+-- control from the master to the terminal
 abbrev pub mt_ctl : LinkId
-mt_ctl = record { from = M; to = T; class = Ctl }
+mt_ctl = link M T Ctl
 
 -- control from the terminal to the master
 abbrev pub tm_ctl : LinkId
-tm_ctl = record { from = T; to = M; class = Ctl }
+tm_ctl = link T M Ctl
 
 -- the air link from the master to the terminal
 abbrev pub mt_air : LinkId
-mt_air = record { from = M; to = T; class = Air }
+mt_air = link M T Air
 
 -- the air link from the terminal to the master
 abbrev pub tm_air : LinkId
-tm_air = record { from = T; to = M; class = Air }
+tm_air = link T M Air
 
 -- the air link on which PDUs of a direction travel
 abbrev pub air_link : Dir → LinkId
 air_link Dl = mt_air
 air_link Ul = tm_air
-
--- whether this node receives from it
-abbrev pub is_to : Node → LinkId → Bool
-is_to node l = node_number l.to == node_number node
-
--- the link of the same class the other way
-abbrev pub reverse : LinkId → LinkId
-reverse l = record { from = l.to; to = l.from; class = l.class }
 
 -- what the terminal sends is uplink, all else is downlink
 abbrev pub direction_from : Node → Dir
@@ -114,18 +85,6 @@ given_at before _ _ = None
 -- the flight that an entry gives to a receiver, with its link; None unless it is a step that is answered ok
 abbrev pub given : List Entry → Entry → Option (LinkId × Flight)
 given before e = given_at before e.event e.answer
-
--- a link by its ends and its class
-abbrev pub link : Node → Node → Class → LinkId
-link from to class = record { from = from; to = to; class = class }
-
--- all links, in their order
-abbrev pub all_links : List LinkId
-all_links =
-    link M T Ctl ∷ link T M Ctl ∷ link M A Ctl ∷ link A M Ctl ∷ link M B Ctl ∷ link B M Ctl
-    ∷ link M A Feed ∷ link A M Feed ∷ link M B Feed ∷ link B M Feed
-    ∷ link M T Air ∷ link T M Air ∷ link A T Air ∷ link T A Air ∷ link B T Air ∷ link T B Air
-    ∷ link M A Tun ∷ link A M Tun ∷ link M B Tun ∷ link B M Tun ∷ link A B Tun ∷ link B A Tun ∷ []
 
 -- the first link on which a flight stands
 abbrev pub first_loaded : List Entry → Option LinkId
