@@ -3,3 +3,4 @@ pub mod Faults
 pub mod Octets
 pub mod MemSource
 pub mod MemSink
+pub mod StdForms

@@ -2,6 +2,7 @@
 ghost use Rattle.std.specs.Prelude.{◌≡◌, ℕ, OnOk};
 ghost use Rattle.std.specs.Io.KnownBytes.{Appends};
 ghost use Rattle.dc_outside.specs.Octets.{AppendsFront, Puts};
+ghost use Rattle.dc_outside.specs.StdForms.{failed_reads, failed_writes};
 
 use crate::{Failed, Sink, Source};
 use std::io::{Read, Write};
@@ -17,7 +18,7 @@ pub struct StdSource<I> {
 impl<I> StdSource<I> {
     /// A source over this reader, with no fault yet.
     pub fn new(inner: I) -> StdSource<I>
-        ensures { result.faults ≡ 0 }
+        ensures { failed_reads result ≡ 0 }
     {
         StdSource { inner, faults: 0 }
     }
@@ -26,7 +27,7 @@ impl<I> StdSource<I> {
 impl<I: Read> Source for StdSource<I> {
     ghost left = { λ s. I.remaining s.inner };
 
-    ghost fault_count = { λ s. s.faults };
+    ghost fault_count = { failed_reads };
 
     fn read(&mut self, buf: &mut [u8]) -> Result<usize, Failed> {
         match self.inner.read(buf) {
@@ -54,7 +55,7 @@ pub struct StdSink<I> {
 impl<I> StdSink<I> {
     /// A sink over this writer, with no fault yet.
     pub fn new(inner: I) -> StdSink<I>
-        ensures { result.faults ≡ 0 }
+        ensures { failed_writes result ≡ 0 }
     {
         StdSink { inner, faults: 0 }
     }
@@ -63,7 +64,7 @@ impl<I> StdSink<I> {
 impl<I: Write> Sink for StdSink<I> {
     ghost put_out = { λ s. I.contents s.inner };
 
-    ghost fault_count = { λ s. s.faults };
+    ghost fault_count = { failed_writes };
 
     fn write_all(&mut self, bytes: &[u8]) -> Result<(), Failed> {
         let written = write_whole(&mut self.inner, bytes);
