@@ -9,32 +9,18 @@ use std::alloc::AllocError;
 use std::process::ExitCode;
 use std::{env, io};
 
-/// The number of a status, with which the program ends.
-fn number(status: Status) -> u8 {
-    match status {
-        Status::Ok => 0,
-        Status::Usage => 1,
-        Status::BadLine { .. } => 2,
-        Status::ReadFault => 3,
-        Status::WriteFault => 4,
-        Status::Memory => 5,
-        Status::TooLong => 6,
-        Status::NotBuilt => 7,
-    }
-}
-
 fn main(rt: HostRuntime) -> ExitCode {
     let alloc = rt.alloc();
     let Ok(args) = env::args(&rt) else {
-        return ExitCode::from(number(Status::Usage));
+        return ExitCode::from(Status::Usage.number());
     };
     let words: Result<Vec<String>, AllocError> = args.skip(1).collect(alloc);
     let Ok(words) = words else {
-        return ExitCode::from(number(Status::Memory));
+        return ExitCode::from(Status::Memory.number());
     };
     let mut src = StdSource::new(rt.reader());
     let mut out = StdSink::new(rt.stdout());
     let mut err = StdSink::new(rt.stderr());
     let status = run_command(alloc, words.as_slice(), &mut src, &mut out, &mut err);
-    ExitCode::from(number(status))
+    ExitCode::from(status.number())
 }
