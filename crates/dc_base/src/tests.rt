@@ -2,14 +2,9 @@
 
 use super::*;
 use std::alloc::Global;
-use std::process::Abort;
 use std::test::Fail;
 
 const KEY: [u8; 32] = [7; 32];
-
-fn identity() -> Result<DrbId, Fail> {
-    Ok(DrbId::new(3).ok_or("3 is an identity")?)
-}
 
 fn octets(alloc: Global) -> Result<Octets, Memory> {
     Octets::from_slice(alloc, &[1, 2, 3])
@@ -25,130 +20,97 @@ fn plan(alloc: Global, id: DrbId) -> Result<Plan, Memory> {
     })
 }
 
-fn failed(alloc: Global, id: DrbId) -> Result<Seq<(DrbId, Gen)>, Memory> {
+/// The record of this number, from 0; the last for all further ones.
+fn record(number: u8, alloc: Global, id: DrbId) -> Result<Rec, Memory> {
     let mut failed = Seq::new(alloc);
     failed.push((id, 4))?;
-    Ok(failed)
-}
-
-fn transfer(alloc: Global, id: DrbId) -> Result<StatusTransfer, Memory> {
-    Ok(StatusTransfer {
-        g: 5,
-        id,
-        ul: 8,
-        bits: octets(alloc)?,
-        dl: 9,
+    let (plan, bits) = (plan(alloc, id)?, octets(alloc)?);
+    Ok(match number {
+        0 => Rec::Reconf { plan, key: KEY },
+        1 => Rec::Addreq { plan, key: KEY },
+        2 => Rec::Modreq { plan, key: KEY },
+        3 => Rec::Relreq { plan },
+        4 => Rec::Chgcnf { plan },
+        5 => Rec::Relcnf { plan },
+        6 => Rec::Scgf { failed },
+        7 => Rec::Snst {
+            status: StatusTransfer {
+                g: 5,
+                id,
+                ul: 8,
+                bits,
+                dl: 9,
+            },
+        },
+        _ => plain_record(number, id),
     })
 }
 
-/// Each of these flights is equal to its copy.
-fn copies_are_equal(rt: &impl Abort, flights: &[Flight]) -> Result<(), Fail> {
-    for flight in flights {
-        assert!(rt; flight.copy()? == *flight);
-    }
-    Ok(())
-}
-
-#[test]
-fn every_record_is_copied(rt: HostRuntime) -> Result<(), Fail> {
-    let alloc = rt.alloc();
-    let id = identity()?;
-    let with_plans = [
-        Flight::Ctl(Rec::Reconf {
-            plan: plan(alloc, id)?,
-            key: KEY,
-        }),
-        Flight::Ctl(Rec::Addreq {
-            plan: plan(alloc, id)?,
-            key: KEY,
-        }),
-        Flight::Ctl(Rec::Modreq {
-            plan: plan(alloc, id)?,
-            key: KEY,
-        }),
-        Flight::Ctl(Rec::Relreq {
-            plan: plan(alloc, id)?,
-        }),
-        Flight::Ctl(Rec::Chgcnf {
-            plan: plan(alloc, id)?,
-        }),
-        Flight::Ctl(Rec::Relcnf {
-            plan: plan(alloc, id)?,
-        }),
-        Flight::Ctl(Rec::Scgf {
-            failed: failed(alloc, id)?,
-        }),
-        Flight::Ctl(Rec::Snst {
-            status: transfer(alloc, id)?,
-        }),
-    ];
-    copies_are_equal(&rt, &with_plans)?;
-    let plain = [
-        Flight::Ctl(Rec::Rcomp { g: 1 }),
-        Flight::Ctl(Rec::Recov { id }),
-        Flight::Ctl(Rec::Recovd { id }),
-        Flight::Ctl(Rec::Addack { g: 1 }),
-        Flight::Ctl(Rec::Addrej { g: 1 }),
-        Flight::Ctl(Rec::Modack { g: 1 }),
-        Flight::Ctl(Rec::Modrej { g: 1 }),
-        Flight::Ctl(Rec::Recfg { g: 1 }),
-        Flight::Ctl(Rec::Relack { g: 1 }),
-        Flight::Ctl(Rec::Relrej { g: 1 }),
-        Flight::Ctl(Rec::Uecr { g: 1 }),
-        Flight::Ctl(Rec::Moved { g: 1, id }),
-        Flight::Ctl(Rec::Scgn { id, g: 1 }),
-        Flight::Ctl(Rec::Modrqd),
-        Flight::Ctl(Rec::Modcnf { g: 1 }),
-        Flight::Ctl(Rec::Modref { word: Word::Busy }),
-        Flight::Ctl(Rec::Chgrqd),
-        Flight::Ctl(Rec::Chgref {
+/// The record of this number that takes no memory, from 8.
+fn plain_record(number: u8, id: DrbId) -> Rec {
+    match number {
+        8 => Rec::Rcomp { g: 1 },
+        9 => Rec::Recov { id },
+        10 => Rec::Recovd { id },
+        11 => Rec::Addack { g: 1 },
+        12 => Rec::Addrej { g: 1 },
+        13 => Rec::Modack { g: 1 },
+        14 => Rec::Modrej { g: 1 },
+        15 => Rec::Recfg { g: 1 },
+        16 => Rec::Relack { g: 1 },
+        17 => Rec::Relrej { g: 1 },
+        18 => Rec::Uecr { g: 1 },
+        19 => Rec::Moved { g: 1, id },
+        20 => Rec::Scgn { id, g: 1 },
+        21 => Rec::Modrqd,
+        22 => Rec::Modcnf { g: 1 },
+        23 => Rec::Modref { word: Word::Busy },
+        24 => Rec::Chgrqd,
+        25 => Rec::Chgref {
             word: Word::Rejected,
-        }),
-        Flight::Ctl(Rec::Relrqd),
-    ];
-    copies_are_equal(&rt, &plain)
+        },
+        _ => Rec::Relrqd,
+    }
 }
 
-#[test]
-fn every_flight_is_copied(rt: HostRuntime) -> Result<(), Fail> {
-    let alloc = rt.alloc();
-    let id = identity()?;
-    let flights = [
-        Flight::Air {
+/// The flight of this number, from 0; a record for all from 6 on.
+fn flight(number: u8, alloc: Global, id: DrbId) -> Result<Flight, Memory> {
+    let body = octets(alloc)?;
+    Ok(match number {
+        0 => Flight::Air {
             id,
             g: 1,
             num: 2,
             tag: Tag::count(3),
-            pdu: octets(alloc)?,
+            pdu: body,
         },
-        Flight::Ack { id, g: 1, num: 2 },
-        Flight::Tun {
+        1 => Flight::Ack { id, g: 1, num: 2 },
+        2 => Flight::Tun {
             tag: Tag::none(),
-            packet: octets(alloc)?,
+            packet: body,
         },
-        Flight::Sdu {
+        3 => Flight::Sdu {
             id,
             g: 1,
-            sdu: octets(alloc)?,
+            sdu: body,
         },
-        Flight::End { id, g: 1 },
-        Flight::Told { id, g: 1, count: 2 },
-    ];
-    copies_are_equal(&rt, &flights)
+        4 => Flight::End { id, g: 1 },
+        5 => Flight::Told { id, g: 1, count: 2 },
+        _ => Flight::Ctl(record(number - 6, alloc, id)?),
+    })
 }
 
-#[test]
-fn every_event_is_copied(rt: HostRuntime) -> Result<(), Fail> {
-    let alloc = rt.alloc();
-    let id = identity()?;
+/// The event of this number, from 0.
+fn event(number: u8, alloc: Global, id: DrbId) -> Result<Event, Memory> {
+    let sdu = octets(alloc)?;
     let shape = Shape {
         at_second: true,
         legs: LegSet::Split(Cell::Scg),
         dup: true,
     };
     let link = LinkId::new(Node::M, Node::A, Class::Tun);
-    let events = [
-        Event::Bearer {
+    Ok(match number {
+        0 => Event::Bearer {
             id,
             n: SnLen::S18,
             first: 1,
@@ -156,91 +118,86 @@ fn every_event_is_copied(rt: HostRuntime) -> Result<(), Fail> {
             threshold: 2,
             policy: 3,
         },
-        Event::Reshape { id, shape },
-        Event::Remove { id },
-        Event::Add { node: Node::A },
-        Event::Change,
-        Event::Release,
-        Event::RekeySecond,
-        Event::RekeyMaster { root: KEY },
-        Event::Recover { id },
-        Event::Report { node: Node::T, id },
-        Event::Deny {
+        1 => Event::Reshape { id, shape },
+        2 => Event::Remove { id },
+        3 => Event::Add { node: Node::A },
+        4 => Event::Change,
+        5 => Event::Release,
+        6 => Event::RekeySecond,
+        7 => Event::RekeyMaster { root: KEY },
+        8 => Event::Recover { id },
+        9 => Event::Report { node: Node::T, id },
+        10 => Event::Deny {
             node: Node::B,
             on: true,
         },
-        Event::Ask {
+        11 => Event::Ask {
             node: Node::A,
             what: Want::Change,
         },
-        Event::ScgFail,
-        Event::Submit {
+        12 => Event::ScgFail,
+        13 => Event::Submit {
             id,
             dir: Dir::Ul,
-            sdu: octets(alloc)?,
+            sdu,
         },
-        Event::Step { link, index: 1 },
-        Event::Lose { link, index: 1 },
-        Event::Again { link, index: 1 },
-    ];
-    for event in &events {
-        assert!(rt; event.copy()? == *event);
-    }
-    Ok(())
+        14 => Event::Step { link, index: 1 },
+        15 => Event::Lose { link, index: 1 },
+        _ => Event::Again { link, index: 1 },
+    })
 }
 
-#[test]
-fn every_line_is_copied(rt: HostRuntime) -> Result<(), Fail> {
-    let alloc = rt.alloc();
-    let id = identity()?;
-    let link = LinkId::new(Node::M, Node::T, Class::Air);
-    let lines = [
-        Line::Event(Event::Change),
-        Line::Answer(Answer::No(Refusal::Full)),
-        Line::Send(link, Flight::End { id, g: 1 }),
-        Line::Note(Note::Begin { what: Want::Rekey }),
-        Line::Note(Note::Join {
-            node: Node::A,
-            g: 1,
-        }),
-        Line::Note(Note::Leave {
-            node: Node::A,
-            g: 1,
-        }),
-        Line::Note(Note::Give {
-            node: Node::M,
-            id,
-            g: 1,
-        }),
-        Line::Note(Note::Own {
-            node: Node::M,
-            id,
-            g: 1,
-        }),
-        Line::Note(Note::Set { id, g: 1 }),
-        Line::Note(Note::Unset { id }),
-        Line::Note(Note::Up {
+/// The note of this number, from 0.
+fn note(number: u8, alloc: Global, id: DrbId) -> Result<Note, Memory> {
+    let sdu = octets(alloc)?;
+    let node = Node::A;
+    Ok(match number {
+        0 => Note::Begin { what: Want::Rekey },
+        1 => Note::Join { node, g: 1 },
+        2 => Note::Leave { node, g: 1 },
+        3 => Note::Give { node, id, g: 1 },
+        4 => Note::Own { node, id, g: 1 },
+        5 => Note::Set { id, g: 1 },
+        6 => Note::Unset { id },
+        7 => Note::Up {
             node: Node::T,
             id,
             dir: Dir::Dl,
             count: 1,
-            sdu: octets(alloc)?,
-        }),
-        Line::Note(Note::Freed {
+            sdu,
+        },
+        8 => Note::Freed {
             id,
             dir: Dir::Ul,
             count: 1,
-        }),
-        Line::Note(Note::Confirmed { node: Node::A }),
-        Line::Note(Note::Refused {
-            node: Node::A,
+        },
+        9 => Note::Confirmed { node },
+        10 => Note::Refused {
+            node,
             word: Word::NoSecondary,
-        }),
-        Line::Note(Note::Done),
-        Line::Note(Note::Rejected),
-    ];
-    for line in &lines {
-        assert!(rt; line.copy()? == *line);
+        },
+        11 => Note::Done,
+        _ => Note::Rejected,
+    })
+}
+
+/// A line with the event, the answer, the note or the flight of this number.
+fn line(number: u8, alloc: Global, id: DrbId) -> Result<Line, Memory> {
+    let link = LinkId::new(Node::M, Node::T, Class::Air);
+    Ok(match number {
+        0..=16 => Line::Event(event(number, alloc, id)?),
+        17 => Line::Answer(Answer::No(Refusal::Full)),
+        18..=30 => Line::Note(note(number - 18, alloc, id)?),
+        _ => Line::Send(link, flight(number - 31, alloc, id)?),
+    })
+}
+
+#[test]
+fn every_line_is_copied(rt: HostRuntime) -> Result<(), Fail> {
+    let id = DrbId::new(3).ok_or("3 is an identity")?;
+    for number in 0..64 {
+        let line = line(number, rt.alloc(), id)?;
+        assert!(rt; line.copy()? == line);
     }
     Ok(())
 }
