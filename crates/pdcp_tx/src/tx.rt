@@ -109,10 +109,8 @@ impl Tx {
         ensures ok { OnOk result (self.new ≡ hold_sdu self.old sdu) }
         ensures err { OnErr result (self.new ≡ self.old) }
     {
-        match self.held.push_back(sdu) {
-            Ok(()) => Ok(()),
-            Err(_) => Err(Memory),
-        }
+        self.held.push_back(sdu)?;
+        Ok(())
     }
 
     /// Gives the next COUNTs to all SDUs that wait, in order, and answers them. It is `Full` exactly where the
@@ -162,10 +160,7 @@ impl Tx {
     pub fn unconfirmed(&self) -> Result<Seq<u32>, Memory>
         ensures { IfOk result (λ found. found ≡ counts self.now.kept) }
     {
-        match counts_of(&self.kept, self.next) {
-            Ok(found) => Ok(Seq::from_vec(found)),
-            Err(_) => Err(Memory),
-        }
+        Ok(Seq::from_vec(counts_of(&self.kept, self.next)?))
     }
 
     /// The SDUs that are not confirmed, each with its COUNT, in ascending COUNT, lent out: a recovery sends them again

@@ -225,10 +225,8 @@ fn note_first(firsts: &mut BTreeMap<u32, usize>, count: Option<u32>, num: u32) -
     if firsts.contains_key(&count) {
         return Ok(());
     }
-    match firsts.insert(count, num as usize) {
-        Ok(_) => Ok(()),
-        Err(_) => Err(Memory),
-    }
+    firsts.insert(count, num as usize)?;
+    Ok(())
 }
 
 /// The key of an outstanding data PDU: its COUNT, and below it its number.
@@ -255,10 +253,8 @@ fn note_open(
     if repeat {
         return Ok(());
     }
-    match open_keys.insert(key_of(count, num)) {
-        Ok(_) => Ok(()),
-        Err(_) => Err(Memory),
-    }
+    open_keys.insert(key_of(count, num))?;
+    Ok(())
 }
 
 /// Forgets that the PDU with this COUNT and this number is outstanding.
