@@ -4,8 +4,8 @@ use Rattle.pdcp_rx.specs.Entries.{AscendFrom}
 use Rattle.pdcp_rx.proofs.MapWords.{insert_entry-last}
 use Rattle.pdcp_rx.proofs.entity.Rx.adopt.Goals as goal
 
-pub loop-count-preserved : goal.loop-count-preserved
-loop-count-preserved c =
+pub loop-count-preserved-in_ok-insert : goal.loop-count-preserved-in_ok-insert
+loop-count-preserved-in_ok-insert c =
     let came = c.loop-count.stored.entries in
     let rest = into_iter_items c.next.new.self in
     let steps = rw c.in-Some.is at c.next.ensures.steps in

@@ -16,8 +16,8 @@ returns-then-contains_key-clause-ok c =
     let above : r.deliv < c.args.count = subst (λ (v : RxParts). v.deliv < c.args.count) (sym c.self.view_is) c.requires.above in
     subst (λ (v : RxParts). ◌≡◌ {A = RxParts × Put} (v, Again) (put v c.args.count c.args.sdu)) c.self.view_is (sym (put_again r c.args.count c.args.sdu (omega arith) is))
 
-pub invariant_of-self : goal.invariant_of-self
-invariant_of-self c =
+pub invariant_of-self-2 : goal.invariant_of-self-2
+invariant_of-self-2 c =
     let r : RxParts = record { n = c.self.inside.n; deliv = c.self.inside.deliv; stored = c.self.inside.stored.entries } in
     let new : is_stored c.args.count r.stored ≡ false = sym (is_some-lookup c.args.count r.stored) ∙ sym c.contains_key.ensures ∙ c.if-contains_key.false in
     let above : r.deliv < c.args.count = subst (λ (v : RxParts). v.deliv < c.args.count) (sym c.self.view_is) c.requires.above in
