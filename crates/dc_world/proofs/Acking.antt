@@ -14,7 +14,7 @@ use Rattle.dc_base.specs.declared.events.Header.{Header}
 use Rattle.dc_base.specs.declared.events.Event.TheVariants.{Step}
 use Rattle.dc_base.specs.declared.events.Line.{Line}
 use Rattle.pdcp_tx.specs.Sender.{low}
-use Rattle.pdcp_tx.specs.Sending.{confirmed as without}
+use Rattle.pdcp_tx.specs.Sending.{confirm_count as without}
 use Rattle.pdcp_rx.specs.Receiver.{Received}
 use Rattle.transcript.specs.Transcript.{Entry, sends}
 use Rattle.transcript.specs.Content.{mt_ctl, tm_ctl, mt_air, tm_air, given, on_link}

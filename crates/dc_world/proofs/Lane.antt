@@ -10,9 +10,9 @@ use Rattle.std.proofs.lemmas.Bool.Decides.{nat_tests}
 use Rattle.dc_base.specs.Count.{window, sn, count_for}
 use Rattle.dc_base.specs.declared.numbers.SnLen.{SnLen}
 use Rattle.pdcp_tx.specs.Sender.{Sender, least, low, is_kept, Rises}
-use Rattle.pdcp_tx.specs.Sending.{taken}
+use Rattle.pdcp_tx.specs.Sending.{take_sdu as taken}
 use Rattle.pdcp_tx.proofs.Entries.{Rises-bounds, Rises-filter, Rises-enumerated}
-use Rattle.pdcp_tx.proofs.Laws.{is_kept-without, low-confirmed, low-reported, low-taken}
+use Rattle.pdcp_tx.proofs.Laws.{is_kept-without, low-confirm_count as low-confirmed, low-take_report as low-reported, low-take_sdu as low-taken}
 use Rattle.pdcp_rx.specs.Entries.{AscendFrom, is_stored, with_sdu}
 use Rattle.pdcp_rx.specs.Run.{run_from}
 use Rattle.pdcp_rx.specs.declared.entity.RxParts.{RxParts}

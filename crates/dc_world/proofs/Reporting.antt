@@ -17,7 +17,7 @@ use Rattle.dc_base.specs.declared.events.Line.{Line}
 use Rattle.pdcp_pdu.specs.Bitmap.{names}
 use Rattle.pdcp_pdu.specs.Pdu.{report, decoded}
 use Rattle.pdcp_tx.specs.Sender.{Sender, low}
-use Rattle.pdcp_tx.specs.Sending.{reported as without_named}
+use Rattle.pdcp_tx.specs.Sending.{take_report as without_named}
 use Rattle.pdcp_rx.specs.Receiver.{Received}
 use Rattle.dc_base.specs.Links.{is_to}
 use Rattle.transcript.specs.Transcript.{Entry, sends}

@@ -4,7 +4,7 @@ use Rattle.std.specs.Prelude.{Ok, nat_le}
 use Rattle.std.proofs.lemmas.Bool.{cases_Bool, eqb-false, leb-false}
 use Rattle.dc_base.specs.Count.{window}
 use Rattle.pdcp_tx.specs.Sender.{Sender, least, low, Entry as Kept}
-use Rattle.pdcp_tx.specs.Sending.{taken}
+use Rattle.pdcp_tx.specs.Sending.{take_sdu as taken}
 
 -- Low stays where one more is kept, under the next COUNT
 least_push : (next : ℕ) (p : List ℕ) (es : List Kept) → least (next + 1) (es ++ (next, p) ∷ []) ≡ least next es

@@ -17,7 +17,7 @@ use Rattle.dc_base.specs.declared.events.Header.{Header}
 use Rattle.dc_base.specs.declared.events.Event.TheVariants.{Report, Submit}
 use Rattle.pdcp_pdu.specs.DataPdu.{IsPayload}
 use Rattle.pdcp_tx.specs.Sender.{Sender, low}
-use Rattle.pdcp_tx.specs.Sending.{taken}
+use Rattle.pdcp_tx.specs.Sending.{take_sdu as taken}
 use Rattle.pdcp_tx.specs.declared.tx.TxErr.{TxErr}
 use Rattle.pdcp_tx.specs.declared.tx.TxErr.TheVariants as refused
 use Rattle.transcript.specs.Transcript.{Entry}

@@ -15,7 +15,7 @@ use Rattle.dc_base.specs.declared.events.Event.TheVariants.{Submit}
 use Rattle.dc_base.specs.declared.events.Line.TheVariants as line
 use Rattle.pdcp_pdu.specs.DataPdu.{IsPayload, data_pdu}
 use Rattle.pdcp_tx.specs.Sender.{Sender, low}
-use Rattle.pdcp_tx.specs.Sending.{taken}
+use Rattle.pdcp_tx.specs.Sending.{take_sdu as taken}
 use Rattle.pdcp_rx.specs.Receiver.{Received}
 use Rattle.dc_base.specs.Nodes.{is_same_dir}
 use Rattle.dc_base.specs.Links.{is_same_link}

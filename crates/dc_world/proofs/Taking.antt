@@ -1,5 +1,5 @@
 -- What a node makes of the data PDU of a submission: ciphered twice, its payload is as it was submitted; it confirms nothing.
-use Rattle.std.proofs.Common.{ℕ, ◌≡◌, ◌-◌, ◌^◌, ◌<◌, ◌++◌, Bool, true, false, List, [], ◌∷◌, Option, Some, Ok, length, map, refl, ap, ◌∙◌, subst, arith, ◌==◌}
+use Rattle.std.proofs.Common.{ℕ, ◌≡◌, ◌-◌, ◌^◌, ◌<◌, ◌≤◌, ◌++◌, Bool, true, false, List, [], ◌∷◌, Option, Some, Ok, length, map, refl, ap, ◌∙◌, subst, arith, ◌==◌}
 use Rattle.std.specs.Prelude.{bit_xor, if◌then◌else◌, ◌&&◌}
 use Rattle.std.specs.Int.Bits.{xor_self, xor_zero_r}
 use Rattle.std.proofs.lemmas.Bool.{cond-true, cond-false, eq-eqb, ne_eqb}
@@ -57,9 +57,9 @@ ciphered_twice h id d count text =
     ap (λ k. combined (combined text stream) (keystream h.alg key count id d k)) (length-combined text stream) ∙ combined_twice text stream
 
 -- a data PDU is read again
-decoded_pdu : (n : SnLen) (shown : ℕ) (body : List ℕ) → shown < modulus n → IsPayload body → decoded n (data_pdu n shown body) ≡ Ok (sdu shown body)
+decoded_pdu : (n : SnLen) (shown : ℕ) (body : List ℕ) → shown < modulus n → 1 ≤ length body → length body ≤ 9000 → decoded n (data_pdu n shown body) ≡ Ok (sdu shown body)
 unfolding data_pdu
-decoded_pdu n shown body small good = data_again n 0 shown body small good
+decoded_pdu n shown body small some most = data_again n 0 shown body small some most
 
 module _ (h : Header) (d : Dir) (r : Entities) (num c : ℕ) (p : List ℕ) where
   -- what the payload makes of the entities, and the lines that it gives
@@ -73,10 +73,9 @@ module _ (h : Header) (d : Dir) (r : Entities) (num c : ℕ) (p : List ℕ) wher
       let b = r.bearer in
       let body = ciphered h b.id d c p in
       let long = length-ciphered h b.id d c p in let some = good.some in let most = good.most in
-      let body_good : IsPayload body = record { some = omega arith; most = omega arith } in
       let done : sdu_taken h d r body c ≡ put_there p = cond-false _ _ _ (ne_eqb c (2 ^ 32 - 1) (λ e. omega arith)) ∙ ap put_there (ciphered_twice h b.id d c p) in
       cond-true _ _ _ (eq-eqb b.g b.g refl)
-      ∙ ap (pdu_taken h d r num) (decoded_pdu b.n (sn b.n c) body (sn_small b.n c) body_good)
+      ∙ ap (pdu_taken h d r num) (decoded_pdu b.n (sn b.n c) body (sn_small b.n c) (omega arith) (omega arith))
       ∙ ap (λ o. let done = with_count h d r body o in (done.0, done.1 ++ ack_line b d num ∷ [])) found
       ∙ ap (λ (q : Entities × List Line). (q.0, q.1 ++ ack_line b d num ∷ [])) done
 

@@ -24,7 +24,7 @@ use Rattle.pdcp_pdu.specs.declared.pdu.PduErr.{PduErr}
 use Rattle.pdcp_rx.specs.Entries.{counts_of}
 use Rattle.pdcp_rx.specs.Receiver.{put, handed_of}
 use Rattle.pdcp_tx.specs.Sender.{Sender, low}
-use Rattle.pdcp_tx.specs.Sending.{taken, confirmed, reported}
+use Rattle.pdcp_tx.specs.Sending.{take_sdu as taken, confirm_count as confirmed, take_report as reported}
 use Rattle.pdcp_tx.specs.declared.tx.TxErr.{TxErr}
 use Rattle.pdcp_tx.specs.declared.tx.TxErr.TheVariants as refused
 use Rattle.transcript.specs.Text.{is_data}

@@ -4,7 +4,7 @@ ghost use Rattle.std.specs.Prelude.{◌≡◌, ◌+◌, ◌<◌, ◌≤◌, ◌+
 ghost use Rattle.dc_base.specs.Count.{window, modulus, count_for};
 ghost use Rattle.pdcp_pdu.specs.DataPdu.{IsPayload};
 ghost use Rattle.pdcp_pdu.specs.Pdu.{decoded, sdu, report};
-ghost use Rattle.pdcp_tx.specs.Sending.{taken, reported, IsRefused};
+ghost use Rattle.pdcp_tx.specs.Sending.{take_sdu, take_report, IsRefused};
 ghost use Rattle.dc_world.specs.Entities.{fresh};
 ghost use Rattle.dc_world.specs.Plane.{leg, up_line, data_flight, submitted_to, ack_line, sdu_taken, with_confirmed, pdu_taken, confirmed_at, ack_taken, flight_taken, is_behind, reports, resends, recovers};
 
@@ -80,9 +80,9 @@ impl PdcpEntities {
     // Numbers a payload and keeps it. It says `Memory` or why there is no COUNT, and then keeps all as before.
     fn take(&mut self, sdu: Octets) -> Result<u32, TxErr>
         requires { IsPayload sdu }
-        ensures ok { IfOk result (λ count. taken self.old.tx sdu ≡ Ok (self.new.tx, count)) }
+        ensures ok { IfOk result (λ count. take_sdu self.old.tx sdu ≡ Ok (self.new.tx, count)) }
         ensures rest { self.new ≡ record self.old { tx = self.new.tx } }
-        ensures err { IfErr result (IsRefused (taken self.old.tx sdu)) }
+        ensures err { IfErr result (IsRefused (take_sdu self.old.tx sdu)) }
         ensures same { OnErr result (self.new ≡ self.old) }
     {
         self.tx.take(sdu)
@@ -240,7 +240,7 @@ impl PdcpEntities {
         fmc: u32,
         bits: &[u8],
     ) -> Result<Seq<Line>, Memory>
-        ensures { IfOk result (λ lines. (self.new, lines) ≡ with_confirmed dir self.old (reported self.old.tx fmc bits.now)) }
+        ensures { IfOk result (λ lines. (self.new, lines) ≡ with_confirmed dir self.old (take_report self.old.tx fmc bits.now)) }
     {
         let before = self.tx.low();
         self.tx.on_report(fmc, bits);

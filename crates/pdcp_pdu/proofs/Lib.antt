@@ -4,3 +4,4 @@ pub mod Reading
 pub mod Ascending
 pub mod Bitmaps
 pub mod Reports
+mod Worked

@@ -8,15 +8,11 @@ use Rattle.dc_base.specs.Count.{modulus}
 use Rattle.pdcp_pdu.specs.declared.pdu.Pdu.{Pdu}
 use Rattle.pdcp_pdu.specs.declared.pdu.PduErr.{PduErr}
 use Rattle.pdcp_pdu.specs.declared.pdu.PduErr.TheVariants.{Short, TooLong, ControlKind}
-use Rattle.pdcp_pdu.specs.DataPdu.{IsPayload, IsDataPdu, header, header_len, reserved}
+use Rattle.pdcp_pdu.specs.DataPdu.{IsBytes, IsPayload, IsDataPdu, header, header_len, reserved}
 use Rattle.pdcp_pdu.specs.Pdu.{Content, sdu, report, IsPdu, shown_sn, shown_fmc, read_data, read_report, judged, decoded, content, outcome, IsBadAt}
 use Rattle.pdcp_pdu.specs.Bitmap.{names, is_shown}
 use Rattle.pdcp_pdu.specs.StatusReport.{report_header, IsStatusReport, first_beyond}
 use Rattle.pdcp_pdu.proofs.Bits.{none_beyond, some_beyond}
-
--- each number is that of an octet
-abbrev pub IsBytes : List ℕ → Type 0
-IsBytes octets = (i : ℕ) → get_or octets i 0 < 256
 
 -- how many COUNTs lie above this one
 abbrev pub room_above : ℕ → ℕ
@@ -55,11 +51,10 @@ drop-header : (n : SnLen) (r sn : ℕ) (body : List ℕ) → drop (header_len n)
 drop-header S12 r sn body = refl
 drop-header S18 r sn body = refl
 
-pub data_again : (n : SnLen) (r sn : ℕ) (body : List ℕ) → sn < modulus n → IsPayload body → decoded n (header n r sn ++ body) ≡ Ok (sdu sn body)
-data_again n r sn body small payload =
+pub data_again : (n : SnLen) (r sn : ℕ) (body : List ℕ) → sn < modulus n → 1 ≤ length body → length body ≤ 9000 → decoded n (header n r sn ++ body) ≡ Ok (sdu sn body)
+data_again n r sn body small some most =
     let octets = header n r sn ++ body in
     let len = length-header n r sn body in
-    let some = payload.some in let most = payload.most in
     let whole : read_data n octets ≡ Ok (sdu (shown_sn n octets) (drop (header_len n) octets)) = read_data_whole n octets (omega arith) (omega arith) in
     decoded_data n octets (header_first n r sn body) ∙ whole ∙ ap (λ (s : ℕ). Ok (sdu s (drop (header_len n) octets))) (header_shows n r sn body small)
     ∙ ap (λ (b : List ℕ). Ok (sdu sn b)) (drop-header n r sn body)
@@ -93,7 +88,7 @@ data_spelled S12 (a ∷ b ∷ body) bytes first least most =
     let b_small : b < 256 = bytes 1 in
     record {
       small = omega arith;
-      payload = record { some = omega arith; most = omega arith };
+      payload = record { some = omega arith; most = omega arith; bytes = λ i. bytes (suc (suc i)) };
       r = (a - 128) / 16;
       r_small = omega arith;
       spelled = same_cells a b (128 + 16 * ((a - 128) / 16) + (a % 16 * 256 + b) / 256) ((a % 16 * 256 + b) % 256) body (omega arith) (omega arith);
@@ -109,7 +104,7 @@ data_spelled S18 (a ∷ b ∷ d ∷ body) bytes first least most =
     let last : d ≡ sn % 256 = omega arith in
     record {
       small = omega arith;
-      payload = record { some = omega arith; most = omega arith };
+      payload = record { some = omega arith; most = omega arith; bytes = λ i. bytes (suc (suc (suc i))) };
       r = (a - 128) / 4;
       r_small = omega arith;
       spelled = same_cells a b (128 + 4 * ((a - 128) / 4) + sn / 65536) (sn / 256 % 256) (d ∷ body) (omega arith) (omega arith)
@@ -148,14 +143,14 @@ module _ (Q : Result Content PduErr → Type 0) where
   pub decoded_cases : (n : SnLen) (octets : List ℕ) → Q (Err (Short 0)) → (128 ≤ get_or octets 0 0 → Q (read_data n octets)) → Q (Err (ControlKind 0))
       → (get_or octets 0 0 < 16 → Q (read_report octets)) → Q (decoded n octets)
   unfolding decoded
-  decoded_cases n octets none is_data other is_report =
+  decoded_cases n octets none data_case other report_case =
       elim (cases_Bool (length octets == 0)) [
         | inl yes' ↦ rw yes' none
         | inr no' ↦ rw no' (elim (cases_Bool (leb 128 (get_or octets 0 0))) [
-          | inl data' ↦ rw data' (is_data (leb-true _ _ data'))
+          | inl data' ↦ rw data' (data_case (leb-true _ _ data'))
           | inr control ↦ rw control (elim (cases_Bool (leb 16 (get_or octets 0 0))) [
             | inl other' ↦ rw other' other
-            | inr report' ↦ rw report' (is_report (leb-false _ _ report'))
+            | inr report' ↦ rw report' (report_case (leb-false _ _ report'))
           ])
         ])
       ]
@@ -264,7 +259,7 @@ decoded_finds n octets said bytes =
     decoded_cases (λ r. r ≡ Ok said → IsPdu n said octets) n octets (λ e. absurd (cc (e))) (data_finds n octets said bytes) (λ e. absurd (cc (e))) (report_finds n octets said bytes)
 
 pub decoded_again : (n : SnLen) (octets : List ℕ) (said : Content) → IsPdu n said octets → decoded n octets ≡ Ok said
-decoded_again n octets (sdu sn body) pdu = rw pdu.spelled (data_again n pdu.r sn body pdu.small pdu.payload)
+decoded_again n octets (sdu sn body) pdu = rw pdu.spelled (data_again n pdu.r sn body pdu.small pdu.payload.some pdu.payload.most)
 decoded_again n octets (report fmc bits) pdu = rw pdu.spelled (report_again n pdu.r fmc bits pdu.fmc_small pdu.r_small pdu.most pdu.counts)
 
 -- ---- where a bad report is bad

@@ -1,5 +1,5 @@
 -- The PDCP data PDU for a data radio bearer (TS 38.323, 6.2.2.2 and 6.2.2.3).
-use Rattle.std.specs.Prelude.{◌≡◌, ℕ, ◌+◌, ◌*◌, ◌/◌, ◌%◌, ◌<◌, ◌≤◌, List, [], ◌∷◌, ◌++◌, length}
+use Rattle.std.specs.Prelude.{◌≡◌, ℕ, ◌+◌, ◌*◌, ◌/◌, ◌%◌, ◌<◌, ◌≤◌, nat_le, Bool, List, [], ◌∷◌, ◌++◌, length, slice_index}
 use Rattle.dc_base.specs.declared.numbers.SnLen.{SnLen}
 use Rattle.dc_base.specs.declared.numbers.SnLen.TheVariants.{S12, S18}
 use Rattle.dc_base.specs.Count.{modulus}
@@ -19,10 +19,19 @@ abbrev pub header : SnLen → ℕ → ℕ → List ℕ
 header S12 r sn = (128 + 16 * r + sn / 256) ∷ (sn % 256) ∷ []
 header S18 r sn = (128 + 4 * r + sn / 65536) ∷ (sn / 256 % 256) ∷ (sn % 256) ∷ []
 
--- what a data PDU carries: 1 to 9000 octets
+-- each number is that of an octet
+abbrev pub IsBytes : List ℕ → Type 0
+IsBytes octets = (i : ℕ) → slice_index octets i < 256
+
+-- what a data PDU carries, and a submission has: 1 to 9000 octets
 pub record IsPayload (body : List ℕ) : Type 0 where
   pub some : 1 ≤ length body
   pub most : length body ≤ 9000
+  pub bytes : IsBytes body
+
+-- the octets are those of a data PDU, and not of a control PDU: the D/C bit, bit 7 of the first, is 1 (TS 38.323, 6.3.7)
+abbrev pub is_data : List ℕ → Bool
+is_data octets = nat_le 128 (slice_index octets 0)
 
 -- the octets are a data PDU with this sequence number and body, whatever its R bits are
 pub record IsDataPdu (n : SnLen) (sn : ℕ) (body octets : List ℕ) : Type 0 where

@@ -1,14 +1,14 @@
 -- PDCP PDUs of a data radio bearer in acknowledged mode as they are read: what each is, and the first check
 -- that octets fail which are none.
-use Rattle.std.specs.Prelude.{◌≡◌, ℕ, ◌+◌, ◌-◌, ◌*◌, ◌%◌, ◌^◌, nat_lt, nat_le, ◌==◌, if◌then◌else◌, List, drop, length, slice_index, Option, Some, None, Result, Ok, Err}
+use Rattle.std.specs.Prelude.{◌≡◌, ℕ, ◌+◌, ◌-◌, ◌*◌, ◌%◌, ◌^◌, nat_lt, nat_le, ◌==◌, if◌then◌else◌, List, ◌++◌, drop, length, slice_index, Option, Some, None, Result, Ok, Err}
 use Rattle.dc_base.specs.declared.numbers.SnLen.{SnLen}
 use Rattle.dc_base.specs.declared.numbers.SnLen.TheVariants.{S12, S18}
 use Rattle.pdcp_pdu.specs.declared.pdu.Pdu.{Pdu}
 use Rattle.pdcp_pdu.specs.declared.pdu.Pdu.TheVariants.{Sdu, Report}
 use Rattle.pdcp_pdu.specs.declared.pdu.PduErr.{PduErr}
 use Rattle.pdcp_pdu.specs.declared.pdu.PduErr.TheVariants.{Short, ControlKind, TooLong, BadReport}
-use Rattle.pdcp_pdu.specs.DataPdu.{header_len, IsDataPdu}
-use Rattle.pdcp_pdu.specs.StatusReport.{IsStatusReport, IsFirstBeyond, first_beyond}
+use Rattle.pdcp_pdu.specs.DataPdu.{header_len, data_pdu, is_data, IsDataPdu}
+use Rattle.pdcp_pdu.specs.StatusReport.{IsStatusReport, IsFirstBeyond, first_beyond, report_header}
 
 -- what a PDU says: an SDU under its sequence number, or FMC and the bitmap of a status report
 pub data Content : Type 0 where
@@ -19,6 +19,11 @@ pub data Content : Type 0 where
 abbrev pub IsPdu : SnLen → Content → List ℕ → Type 0
 IsPdu n (sdu sn body) octets = IsDataPdu n sn body octets
 IsPdu n (report fmc bits) octets = IsStatusReport fmc bits octets
+
+-- the octets of what a PDU says, in their one canonical form: the R bits are 0
+abbrev pub encoded : SnLen → Content → List ℕ
+encoded n (sdu sn body) = data_pdu n sn body
+encoded n (report fmc bits) = report_header 0 fmc ++ bits
 
 -- a PDU that was read, without where it lies in memory
 abbrev pub content : Pdu → Content
@@ -63,7 +68,7 @@ read_report octets =
 unfoldable pub decoded : SnLen → List ℕ → Result Content PduErr
 decoded n octets =
     if length octets == 0 then Err (Short 0)
-    else if nat_le 128 (slice_index octets 0) then read_data n octets
+    else if is_data octets then read_data n octets
     else if nat_le 16 (slice_index octets 0) then Err (ControlKind 0)
     else read_report octets
 

@@ -6,7 +6,7 @@ mod data_pdu;
 mod pdu;
 mod status_report;
 
-pub use data_pdu::encode_data;
+pub use data_pdu::{encode_data, is_data};
 pub use pdu::{Pdu, PduErr, decode};
 pub use status_report::{encode_bitmap, encode_report, is_named};
 

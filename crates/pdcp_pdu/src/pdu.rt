@@ -3,7 +3,7 @@
 ghost use Rattle.std.specs.Prelude.{◌≡◌, ◌<◌, ◌^◌, List, Ok, IfOk, IfErr};
 ghost use Rattle.pdcp_pdu.specs.Pdu.{Content, IsPdu, IsBadAt, content, outcome, decoded};
 
-use crate::data_pdu::read_data;
+use crate::data_pdu::{is_data, read_data};
 use crate::status_report::read_report;
 use dc_base::SnLen;
 use thiserror::Error;
@@ -34,6 +34,7 @@ pub enum PduErr {
     BadReport { place: usize },
 }
 
+/// Reads octets as a PDU, check by check.
 #[tactic(auto, unfolding(crate::specs::Pdu::decoded))]
 fn read(n: SnLen, input: &[u8]) -> Result<Pdu<'_>, PduErr>
     ensures { outcome result ≡ decoded n input.now }
@@ -41,7 +42,7 @@ fn read(n: SnLen, input: &[u8]) -> Result<Pdu<'_>, PduErr>
     if input.is_empty() {
         return Err(PduErr::Short { place: 0 });
     }
-    if input[0] >= 128 {
+    if is_data(input) {
         return read_data(n, input);
     }
     if input[0] >= 16 {

@@ -1,6 +1,6 @@
 //! Status reports (TS 38.323, 6.2.3.1).
 
-ghost use Rattle.std.specs.Prelude.{◌≡◌, ℕ, ◌+◌, ◌-◌, ◌/◌, ◌%◌, ◌<◌, ◌≤◌, ◌^◌, ◌++◌, ◌||◌, nat_lt, length, vec_len, slice_index, slice_set, All, Ok, IfOk, OnOk, IfSome};
+ghost use Rattle.std.specs.Prelude.{◌≡◌, ℕ, ◌+◌, ◌-◌, ◌/◌, ◌%◌, ◌<◌, ◌≤◌, ◌^◌, ◌++◌, ◌||◌, nat_lt, length, replicate, slice_index, slice_set, All, Ok, IfOk, IfSome};
 ghost use Rattle.std.specs.List.Sorted.{IsStrictlyIncreasing};
 ghost use Rattle.dc_base.specs.declared.numbers.SnLen.{SnLen};
 ghost use Rattle.pdcp_pdu.specs.Bitmap.{names, is_among, bitmap, bitmap_len};
@@ -9,12 +9,13 @@ ghost use Rattle.pdcp_pdu.specs.Pdu.{report, shown_fmc, outcome, read_report, de
 
 use crate::pdu::{Pdu, PduErr};
 use dc_base::{Memory, Octets, Seq};
-use std::alloc::{AllocError, Global};
+use std::alloc::Global;
 
-/// The most octets that a status report has, and its bitmap.
+/// The most octets that a status report has.
 const LONGEST: usize = 9000;
 
-const LONGEST_BITMAP: usize = 8995;
+/// How many octets come before the bitmap.
+const HEADER: usize = 5;
 
 /// Whether a report with this FMC and this bitmap names the COUNT as received: all below FMC are, and
 /// FMC + k where bit k is 1; bits count from 1, and the first is bit 7 of the first octet.
@@ -31,6 +32,7 @@ pub fn is_named(fmc: u32, bits: &[u8], count: u32) -> bool
     }
 }
 
+/// The place of the first octet of a bitmap that names a number above 2^32 - 1.
 fn first_beyond(fmc: u32, bits: &[u8]) -> Option<usize>
     ensures place { result ≡ first_beyond (2 ^ 32 - 1 - fmc) bits.now }
     ensures within { IfSome result (λ place. place < length bits.now) }
@@ -46,6 +48,7 @@ fn first_beyond(fmc: u32, bits: &[u8]) -> Option<usize>
     None
 }
 
+/// The FMC that the octets of a report show.
 fn shown_fmc(octets: &[u8]) -> u32
     requires { 5 ≤ length octets.now }
     ensures { result ≡ shown_fmc octets.now }
@@ -56,7 +59,7 @@ fn shown_fmc(octets: &[u8]) -> u32
         + u32::from(octets[4])
 }
 
-/// Reads octets whose first is below 16 as a status report.
+/// Reads octets whose first is below 16 as a status report. It refuses them as `decode` says.
 #[tactic(auto, unfolding(crate::specs::Pdu::read_report))]
 pub(crate) fn read_report(input: &[u8]) -> Result<Pdu<'_>, PduErr>
     ensures { outcome result ≡ read_report input.now }
@@ -88,39 +91,48 @@ fn bitmap_len(fmc: u32, received: &[u32]) -> usize
 }
 
 /// Makes bit `bit` of a bitmap 1, from 0 on: it is 0 before.
-fn mark(bits: &mut Vec<u8>, bit: usize)
-    requires inside { bit / 8 < vec_len bits.old }
-    requires room { slice_index bits.old.items (bit / 8) + 2 ^ (7 - bit % 8) < 256 }
-    ensures { bits.new.items ≡ slice_set bits.old.items (bit / 8) (slice_index bits.old.items (bit / 8) + 2 ^ (7 - bit % 8)) }
+fn mark(bits: &mut [u8], bit: usize)
+    requires inside { bit / 8 < length bits.old }
+    requires room { slice_index bits.old (bit / 8) + 2 ^ (7 - bit % 8) < 256 }
+    ensures { bits.new ≡ slice_set bits.old (bit / 8) (slice_index bits.old (bit / 8) + 2 ^ (7 - bit % 8)) }
 {
     bits[bit / 8] += 1 << (7 - bit % 8);
 }
 
-/// The first `len` octets of the bitmap for an ascending list of COUNTs above FMC.
-fn bitmap(alloc: Global, fmc: u32, received: &[u32], len: usize) -> Result<Vec<u8>, AllocError>
+/// Writes the bitmap for an ascending list of COUNTs above FMC over octets that are 0, as far as they go.
+fn write_bitmap(bits: &mut [u8], fmc: u32, received: &[u32])
+    requires zero { bits.old ≡ replicate (length bits.old) 0 }
     requires ascending { IsStrictlyIncreasing received.now }
     requires above { All (λ c. fmc < c) received.now }
-    ensures { IfOk result (λ bits. bits.items ≡ bitmap (is_among received.now) (fmc + 1) len) }
+    ensures { bits.new ≡ bitmap (is_among received.now) (fmc + 1) (length bits.old) }
 {
-    let mut bits = vec![in alloc; 0u8; len]?;
+    let len = bits.len();
     for count in received {
         let bit = (*count - fmc - 1) as usize;
         if bit / 8 < len {
-            mark(&mut bits, bit);
+            mark(bits, bit);
         }
     }
-    Ok(bits)
 }
 
-/// Adds D/C bit, type and R bits, all 0, and FMC.
-fn push_header(octets: &mut Octets, fmc: u32) -> Result<(), Memory>
-    ensures { OnOk result (octets.new ≡ octets.old ++ report_header 0 fmc) }
+/// Writes the report with this FMC over octets that are 0: its header, with D/C bit, type and R bits 0, and as
+/// much of the bitmap as there is room for.
+fn write_report(octets: &mut [u8], fmc: u32, received: &[u32])
+    requires header { 5 ≤ length octets.old }
+    requires zero { octets.old ≡ replicate (length octets.old) 0 }
+    requires ascending { IsStrictlyIncreasing received.now }
+    requires above { All (λ c. fmc < c) received.now }
+    ensures { octets.new ≡ report_header 0 fmc ++ bitmap (is_among received.now) (fmc + 1) (length octets.old - 5) }
 {
-    octets.push(0)?;
-    octets.push((fmc / 16_777_216) as u8)?;
-    octets.push((fmc / 65536 % 256) as u8)?;
-    octets.push((fmc / 256 % 256) as u8)?;
-    octets.push((fmc % 256) as u8)
+    let (header, bits) = octets.split_at_mut(HEADER);
+    header.copy_from_slice(&[
+        0,
+        (fmc / 16_777_216) as u8,
+        (fmc / 65536 % 256) as u8,
+        (fmc / 256 % 256) as u8,
+        (fmc % 256) as u8,
+    ]);
+    write_bitmap(bits, fmc, received);
 }
 
 /// The octets of a status report, where the received COUNTs ascend from above FMC.
@@ -131,14 +143,21 @@ fn spelled(alloc: Global, fmc: u32, received: &[u32]) -> Result<Octets, Memory>
     ensures octets { IfOk result (λ octets. octets ≡ report_pdu fmc received.now) }
     ensures counts { (i : ℕ) → slice_index received.now i < 2 ^ 32 }
 {
-    let len = bitmap_len(fmc, received).min(LONGEST_BITMAP);
-    let Ok(bits) = bitmap(alloc, fmc, received, len) else {
-        return Err(Memory);
-    };
-    let mut octets = Octets::new(alloc);
-    push_header(&mut octets, fmc)?;
-    octets.extend(&bits)?;
-    Ok(octets)
+    let len = bitmap_len(fmc, received).min(LONGEST - HEADER);
+    let mut octets = vec![in alloc; 0u8; HEADER + len]?;
+    write_report(&mut octets, fmc, received);
+    Ok(Octets::from_vec(octets))
+}
+
+/// The bitmap for an ascending list of COUNTs above FMC, never cut.
+fn whole_bitmap(alloc: Global, fmc: u32, received: &[u32]) -> Result<Octets, Memory>
+    requires ascending { IsStrictlyIncreasing received.now }
+    requires above { All (λ c. fmc < c) received.now }
+    ensures { IfOk result (λ bits. bits ≡ whole_bits fmc received.now) }
+{
+    let mut bits = vec![in alloc; 0u8; bitmap_len(fmc, received)]?;
+    write_bitmap(&mut bits, fmc, received);
+    Ok(Octets::from_vec(bits))
 }
 
 /// The status report that says: all COUNTs below `fmc` are received, and of those above it exactly these,
@@ -162,9 +181,5 @@ pub fn encode_bitmap(alloc: Global, fmc: u32, received: &Seq<u32>) -> Result<Oct
     ensures octets { IfOk result (λ bits. bits ≡ whole_bits fmc received.now) }
     ensures names { IfOk result (λ bits. (c : ℕ) → names fmc bits c ≡ (nat_lt c fmc || is_among received.now c)) }
 {
-    let received = received.as_slice();
-    match bitmap(alloc, fmc, received, bitmap_len(fmc, received)) {
-        Ok(bits) => Ok(Octets::from_vec(bits)),
-        Err(_) => Err(Memory),
-    }
+    whole_bitmap(alloc, fmc, received.as_slice())
 }

@@ -7,56 +7,108 @@ use std::alloc::Global;
 use std::process::Abort;
 use std::test::Fail;
 
-/// What was read, in a letter and a number: an SDU and its sequence number, a report and its FMC, or the
-/// check that failed and its place.
-fn summary(n: SnLen, octets: &[u8]) -> (char, usize) {
-    match decode(n, octets) {
-        Ok(Pdu::Sdu { sn, .. }) => ('d', sn as usize),
-        Ok(Pdu::Report { fmc, .. }) => ('r', fmc as usize),
-        Err(PduErr::Short { place }) => ('s', place),
-        Err(PduErr::ControlKind { place }) => ('c', place),
-        Err(PduErr::TooLong { place }) => ('l', place),
-        Err(PduErr::BadReport { place }) => ('b', place),
+/// Octets, and what they are read as with sequence numbers of this length.
+type Row<'a> = (SnLen, &'a [u8], Result<Pdu<'a>, PduErr>);
+
+fn reads(rt: &impl Abort, rows: &[Row<'_>]) {
+    for (n, octets, want) in rows {
+        assert_eq!(rt; decode(*n, octets), *want, "{octets:?}");
     }
 }
 
-/// Each front of the octets, the empty one first, is read so.
-fn reads_fronts(rt: &impl Abort, n: SnLen, octets: &[u8], wants: &[(char, usize)]) {
-    for (length, want) in wants.iter().enumerate() {
-        assert!(rt; length <= octets.len());
-        assert_eq!(rt;
-            summary(n, &octets[..length]),
-            *want,
-            "at {length} of {octets:?}"
-        );
-    }
+fn data(sn: u32, body: &[u8]) -> Result<Pdu<'_>, PduErr> {
+    Ok(Pdu::Sdu { sn, body })
+}
+
+fn said(fmc: u32, bits: &[u8]) -> Result<Pdu<'_>, PduErr> {
+    Ok(Pdu::Report { fmc, bits })
+}
+
+fn ends<'a>(place: usize) -> Result<Pdu<'a>, PduErr> {
+    Err(PduErr::Short { place })
+}
+
+fn is_too_long<'a>(place: usize) -> Result<Pdu<'a>, PduErr> {
+    Err(PduErr::TooLong { place })
+}
+
+fn is_bad<'a>(place: usize) -> Result<Pdu<'a>, PduErr> {
+    Err(PduErr::BadReport { place })
 }
 
 #[test]
-fn reads_each_vector_cut_at_every_length(rt: HostRuntime) {
-    let short = [('s', 0), ('s', 1), ('s', 2), ('d', 0), ('d', 0)];
-    reads_fronts(&rt, SnLen::S12, &[0x80, 0x00, 0x68, 0x69], &short);
-    let long = [('s', 0), ('s', 1), ('s', 2), ('s', 3), ('d', 5), ('d', 5)];
-    reads_fronts(&rt, SnLen::S18, &[0x80, 0x00, 0x05, 0x68, 0x69], &long);
-    let report = [
-        ('s', 0),
-        ('s', 1),
-        ('s', 2),
-        ('s', 3),
-        ('s', 4),
-        ('r', 5),
-        ('r', 5),
-    ];
-    reads_fronts(&rt, SnLen::S12, &[0, 0, 0, 0, 5, 0x60], &report);
-    reads_fronts(&rt, SnLen::S18, &[0, 0, 0, 0, 5, 0x60], &report);
-    reads_fronts(&rt, SnLen::S12, &[0x10], &[('s', 0), ('c', 0)]);
-    // R bits are not looked at.
-    reads_fronts(
+fn reads_data_pdus(rt: HostRuntime) {
+    let (n12, n18) = (SnLen::S12, SnLen::S18);
+    reads(
         &rt,
-        SnLen::S12,
-        &[0xff, 0xfe, 0],
-        &[('s', 0), ('s', 1), ('s', 2), ('d', 4094)],
+        &[
+            (n12, &[], ends(0)),
+            (n12, &[0x80], ends(1)),
+            (n12, &[0x80, 0x00], ends(2)),
+            (n12, &[0x80, 0x00, 0x68], data(0, &[0x68])),
+            (n12, &[0x80, 0x00, 0x68, 0x69], data(0, &[0x68, 0x69])),
+            (n18, &[0x80, 0x00], ends(2)),
+            (n18, &[0x80, 0x00, 0x05], ends(3)),
+            (n18, &[0x80, 0x00, 0x05, 0x68], data(5, &[0x68])),
+            // R bits are not looked at.
+            (n12, &[0xff, 0xfe, 0x00], data(4094, &[0x00])),
+            (n18, &[0xff, 0xff, 0xfe, 0x00], data(262_142, &[0x00])),
+        ],
     );
+}
+
+#[test]
+fn reads_status_reports(rt: HostRuntime) {
+    let (n12, n18) = (SnLen::S12, SnLen::S18);
+    let other = Err(PduErr::ControlKind { place: 0 });
+    reads(
+        &rt,
+        &[
+            (n12, &[0x00, 0, 0, 0], ends(4)),
+            (n12, &[0x00, 0, 0, 0, 5], said(5, &[])),
+            (n12, &[0x00, 0, 0, 0, 5, 0x60], said(5, &[0x60])),
+            (n18, &[0x0f, 0, 0, 1, 5, 0x60], said(261, &[0x60])),
+            (n12, &[0x10], other),
+            (n12, &[0x70, 0, 0, 0, 5], other),
+            (n12, &[0x00, 0xff, 0xff, 0xff, 0xff, 0x80], is_bad(5)),
+            (n12, &[0x00, 0xff, 0xff, 0xff, 0xff, 0x00, 0x80], is_bad(6)),
+            (
+                n12,
+                &[0x00, 0xff, 0xff, 0xff, 0xfe, 0x80],
+                said(4_294_967_294, &[0x80]),
+            ),
+        ],
+    );
+}
+
+#[test]
+fn reads_the_longest_pdus_and_none_longer(rt: HostRuntime) -> Result<(), Fail> {
+    let (n12, n18) = (SnLen::S12, SnLen::S18);
+    let data_octets = vec![in rt.alloc(); 0x81u8; 9004]?;
+    let report_octets = vec![in rt.alloc(); 0u8; 9001]?;
+    reads(
+        &rt,
+        &[
+            (n12, &data_octets[..9002], data(385, &data_octets[..9000])),
+            (n12, &data_octets[..9003], is_too_long(9002)),
+            (
+                n18,
+                &data_octets[..9003],
+                data(98_689, &data_octets[..9000]),
+            ),
+            (n18, &data_octets, is_too_long(9003)),
+            (n12, &report_octets[..9000], said(0, &report_octets[..8995])),
+            (n12, &report_octets, is_too_long(9000)),
+        ],
+    );
+    Ok(())
+}
+
+#[test]
+fn tells_data_pdus_from_control_pdus(rt: HostRuntime) {
+    assert!(rt; is_data(&[0x80]));
+    assert!(rt; !is_data(&[0x7f, 0x80]));
+    assert!(rt; !is_data(&[]));
 }
 
 #[test]

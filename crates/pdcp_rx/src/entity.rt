@@ -97,12 +97,7 @@ impl Rx {
     pub fn stored(&self) -> Result<Seq<u32>, Memory>
         ensures { IfOk result (λ counts. counts ≡ counts_of self.now.stored) }
     {
-        let counts = self
-            .stored
-            .keys()
-            .copied()
-            .collect(self.alloc)
-            .map_err(|_| Memory)?;
+        let counts = self.stored.keys().copied().collect(self.alloc)?;
         Ok(Seq::from_vec(counts))
     }
 
@@ -115,7 +110,7 @@ impl Rx {
     }
 
     /// Takes a deciphered SDU with its COUNT, which is below 2^32 - 1 and below RX_DELIV + Window_Size
-    /// (TS 38.323, 5.2.2.2). After `Memory` the entity is as before.
+    /// (TS 38.323, 5.2.2.1). After `Memory` the entity is as before.
     pub fn put(&mut self, count: u32, sdu: Octets) -> Result<Put, Memory>
         requires not_last { count < 2 ^ 32 - 1 }
         requires in_window { count < self.old.deliv + window self.old.n }
@@ -129,7 +124,8 @@ impl Rx {
         }
     }
 
-    // The SDU at RX_DELIV goes up, with the stored ones that follow it without a gap.
+    /// The SDU at RX_DELIV goes up, with the stored ones that follow it without a gap. After `Memory` the entity is as
+    /// before.
     fn hand_up(&mut self, sdu: Octets) -> Result<Put, Memory>
         requires { self.old.deliv < 2 ^ 32 - 1 }
         ensures ok { IfOk result (λ answer. (self.new, answer) ≡ put self.old self.old.deliv sdu) }
@@ -137,9 +133,7 @@ impl Rx {
     {
         let gap = first_gap(&self.stored, self.deliv + 1);
         let number = (gap - self.deliv) as usize;
-        let Ok(mut handed) = Vec::with_capacity(self.alloc, number) else {
-            return Err(Memory);
-        };
+        let mut handed = Vec::with_capacity(self.alloc, number)?;
         handed.push((self.deliv, sdu)).unwrap();
         take_first(&mut self.stored, number - 1, &mut handed);
         self.deliv = gap;
@@ -148,7 +142,7 @@ impl Rx {
         })
     }
 
-    // An SDU above RX_DELIV waits for those before it.
+    /// An SDU above RX_DELIV waits for those before it. After `Memory` the entity is as before.
     fn store(&mut self, count: u32, sdu: Octets) -> Result<Put, Memory>
         requires above { self.old.deliv < count }
         requires not_last { count < 2 ^ 32 - 1 }
@@ -159,12 +153,10 @@ impl Rx {
         if self.stored.contains_key(&count) {
             return Ok(Put::Again);
         }
-        match self.stored.insert(count, sdu) {
-            Ok(_) => Ok(Put::Stored {
-                handed: Seq::new(self.alloc),
-            }),
-            Err(_) => Err(Memory),
-        }
+        self.stored.insert(count, sdu)?;
+        Ok(Put::Stored {
+            handed: Seq::new(self.alloc),
+        })
     }
 
     /// Ends the entity and gives its parts, for the entity that goes on from them.
@@ -172,15 +164,10 @@ impl Rx {
         ensures parts { IfOk result (λ parts. parts ≡ self) }
         ensures in_order { IfOk result IsInOrder }
     {
-        let stored = self
-            .stored
-            .into_iter()
-            .collect(self.alloc)
-            .map_err(|_| Memory)?;
         Ok(RxParts {
             n: self.n,
             deliv: self.deliv,
-            stored: Seq::from_vec(stored),
+            stored: Seq::from_vec(self.stored.into_iter().collect(self.alloc)?),
         })
     }
 
@@ -192,9 +179,7 @@ impl Rx {
     {
         let mut stored = BTreeMap::new(alloc);
         for (count, sdu) in parts.stored.into_vec() {
-            if stored.insert(count, sdu).is_err() {
-                return Err(Memory);
-            }
+            stored.insert(count, sdu)?;
         }
         Ok(Rx {
             n: parts.n,

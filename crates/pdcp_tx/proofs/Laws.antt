@@ -5,7 +5,7 @@ use Rattle.std.proofs.lemmas.Bool.{cases_Bool, eqb-true, eq-eqb}
 use Rattle.dc_base.specs.Count.{window}
 use Rattle.pdcp_pdu.specs.Bitmap.{names}
 use Rattle.pdcp_tx.specs.Sender.{Sender, Entry, least, low, is_kept, Rises}
-use Rattle.pdcp_tx.specs.Sending.{taken, numbered, confirmed, reported}
+use Rattle.pdcp_tx.specs.Sending.{take_sdu, give_numbers, confirm_count, take_report}
 use Rattle.pdcp_tx.proofs.Entries.{least-first, without_past}
 
 -- ---- what leaves
@@ -30,12 +30,12 @@ is_kept-without test (e ∷ es) count =
     ]
 
 -- after a confirmation that COUNT is not kept, and every other one is as before
-pub is_kept-confirmed : (s : Sender) (count other : ℕ) → is_kept (confirmed s count).kept other ≡ (is_kept s.kept other && not (other == count))
-is_kept-confirmed s count other = is_kept-without (λ c. c == count) s.kept other
+pub is_kept-confirm_count : (s : Sender) (count other : ℕ) → is_kept (confirm_count s count).kept other ≡ (is_kept s.kept other && not (other == count))
+is_kept-confirm_count s count other = is_kept-without (λ c. c == count) s.kept other
 
 -- after a report the COUNTs that it names are not kept, and every other one is as before
-pub is_kept-reported : (s : Sender) (fmc : ℕ) (bits : List ℕ) (other : ℕ) → is_kept (reported s fmc bits).kept other ≡ (is_kept s.kept other && not (names fmc bits other))
-is_kept-reported s fmc bits other = is_kept-without (names fmc bits) s.kept other
+pub is_kept-take_report : (s : Sender) (fmc : ℕ) (bits : List ℕ) (other : ℕ) → is_kept (take_report s fmc bits).kept other ≡ (is_kept s.kept other && not (names fmc bits other))
+is_kept-take_report s fmc bits other = is_kept-without (names fmc bits) s.kept other
 
 -- ---- Low
 
@@ -46,19 +46,19 @@ least-without test next (e ∷ es) =
     elim (cases_Bool (test e)) [ inl yes' ↦ rw yes' (omega arith) | inr no' ↦ rw no' (omega arith) ]
 
 -- Low never falls
-pub low-confirmed : (s : Sender) (count : ℕ) → low s ≤ low (confirmed s count)
-low-confirmed s count = least-without (λ e. not (e.0 == count)) s.next s.kept
+pub low-confirm_count : (s : Sender) (count : ℕ) → low s ≤ low (confirm_count s count)
+low-confirm_count s count = least-without (λ e. not (e.0 == count)) s.next s.kept
 
-pub low-reported : (s : Sender) (fmc : ℕ) (bits : List ℕ) → low s ≤ low (reported s fmc bits)
-low-reported s fmc bits = least-without (λ e. not (names fmc bits e.0)) s.next s.kept
+pub low-take_report : (s : Sender) (fmc : ℕ) (bits : List ℕ) → low s ≤ low (take_report s fmc bits)
+low-take_report s fmc bits = least-without (λ e. not (names fmc bits e.0)) s.next s.kept
 
 pub least-append : (next later : ℕ) (es more : List Entry) → next ≤ least later more → least next es ≤ least later (es ++ more)
 least-append next later [] more le = le
 least-append next later (e ∷ es) more le = let rest = least-append next later es more le in omega arith
 
 -- after Low is confirmed it is the COUNT kept next, or the next one
-pub least-confirmed : (from next : ℕ) (e : Entry) (es : List Entry) → Rises from next (e ∷ es) → least next (filter (λ f. not (f.0 == least next (e ∷ es))) (e ∷ es)) ≡ least next es
-least-confirmed from next e es up =
+pub least-confirm_count : (from next : ℕ) (e : Entry) (es : List Entry) → Rises from next (e ∷ es) → least next (filter (λ f. not (f.0 == least next (e ∷ es))) (e ∷ es)) ≡ least next es
+least-confirm_count from next e es up =
     let first : e.0 ≡ least next (e ∷ es) = sym (least-first from next e es up) in
     rw (eq-eqb _ _ first) (ap (least next) (without_past (least next (e ∷ es)) (e.0 + 1) next es up.1 (omega (arith, first))))
 
@@ -73,8 +73,8 @@ low-grown s sdus = least-append s.next (s.next + length sdus) s.kept (enumerate_
         let rest = subst (λ (k : ℕ). next + 1 ≤ least k (enumerate_from (next + 1) sdus)) end (from_next (next + 1) sdus) in
         omega arith
 
-pub low-taken : (s after : Sender) (sdu : List ℕ) (count : ℕ) → taken s sdu ≡ Ok (after, count) → low s ≤ low after
-low-taken s after sdu count ok =
+pub low-take_sdu : (s after : Sender) (sdu : List ℕ) (count : ℕ) → take_sdu s sdu ≡ Ok (after, count) → low s ≤ low after
+low-take_sdu s after sdu count ok =
     elim (cases_Bool (leb (low s + window s.n) s.next)) [
       | inl full ↦ let e = rw full at ok in absurd (cc (e))
       | inr room ↦
@@ -89,8 +89,8 @@ low-taken s after sdu count ok =
           ]
     ]
 
-pub low-numbered : (s after : Sender) (given : List ℕ) → numbered s ≡ Ok (after, given) → low s ≤ low after
-low-numbered s after given ok =
+pub low-give_numbers : (s after : Sender) (given : List ℕ) → give_numbers s ≡ Ok (after, given) → low s ≤ low after
+low-give_numbers s after given ok =
     elim (cases_Bool (ltb (low s + window s.n) (s.next + length s.held))) [
       | inl full ↦ let e = rw full at ok in absurd (cc (e))
       | inr room ↦

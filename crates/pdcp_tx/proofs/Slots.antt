@@ -4,37 +4,37 @@ use Rattle.std.specs.List.{filter}
 use Rattle.std.specs.List.Sorted.{IsNonDecreasingBy}
 use Rattle.std.proofs.lemmas.Bool.{cases_Bool, ltb-true, ltb-false, ne_eqb}
 use Rattle.pdcp_tx.specs.Sender.{Entry, least, is_kept, sdu_at, Rises}
-use Rattle.pdcp_tx.specs.Slots.{is_live, count_at, live, given, AreSlots, begins_empty, IsSlotPlace}
+use Rattle.pdcp_tx.specs.Slots.{is_live, count_at, live, slot_entries, AreSlots, begins_empty, IsSlotPlace}
 use Rattle.pdcp_tx.proofs.Entries.{Rises-weaker, Rises-bounds, least-first}
 
 -- the SDUs that are there rise as the slots do
-pub live-rises : (from next : ℕ) (slots : List Entry) → Rises from next (given next slots) → Rises from next (live next slots)
+pub live-rises : (from next : ℕ) (slots : List Entry) → Rises from next (slot_entries next slots) → Rises from next (live next slots)
 live-rises from next [] up = up
 live-rises from next (e ∷ slots) up =
     elim (cases_Bool (is_live next e.0)) [
       | inl yes' ↦
           let here : count_at next e.0 ≡ e.0 = rw yes' refl in
-          let rest : Rises (e.0 + 1) next (given next slots) = subst (λ (k : ℕ). Rises (k + 1) next (given next slots)) here up.1 in
+          let rest : Rises (e.0 + 1) next (slot_entries next slots) = subst (λ (k : ℕ). Rises (k + 1) next (slot_entries next slots)) here up.1 in
           rw yes' (omega (arith, up.0, here), live-rises (e.0 + 1) next slots rest)
       | inr no' ↦ rw no' (Rises-weaker from (count_at next e.0 + 1) next (live next slots) (omega (arith, up.0)) (live-rises (count_at next e.0 + 1) next slots up.1))
     ]
 
 -- later slots have later COUNTs
-pub given-at : (from next : ℕ) (slots : List Entry) → Rises from next (given next slots) → (i : ℕ) (d : Entry) → i < length slots → from ≤ count_at next (get_or slots i d).0
-given-at from next [] up i d inside = absurd (omega arith)
-given-at from next (e ∷ slots) up zero d inside = up.0
-given-at from next (e ∷ slots) up (suc i) d inside =
-    let later = given-at (count_at next e.0 + 1) next slots up.1 i d (omega arith) in omega (arith, up.0)
+pub slot_entries-at : (from next : ℕ) (slots : List Entry) → Rises from next (slot_entries next slots) → (i : ℕ) (d : Entry) → i < length slots → from ≤ count_at next (get_or slots i d).0
+slot_entries-at from next [] up i d inside = absurd (omega arith)
+slot_entries-at from next (e ∷ slots) up zero d inside = up.0
+slot_entries-at from next (e ∷ slots) up (suc i) d inside =
+    let later = slot_entries-at (count_at next e.0 + 1) next slots up.1 i d (omega arith) in omega (arith, up.0)
 
-pub given-below : (from next : ℕ) (slots : List Entry) → Rises from next (given next slots) → (i : ℕ) (d : Entry) → i < length slots → count_at next (get_or slots i d).0 < next
-given-below from next [] up i d inside = absurd (omega arith)
-given-below from next (e ∷ slots) up zero d inside = let rest = Rises-bounds (count_at next e.0 + 1) next (given next slots) up.1 in omega (arith, rest.0, rest.1)
-given-below from next (e ∷ slots) up (suc i) d inside = given-below (count_at next e.0 + 1) next slots up.1 i d (omega arith)
+pub slot_entries-below : (from next : ℕ) (slots : List Entry) → Rises from next (slot_entries next slots) → (i : ℕ) (d : Entry) → i < length slots → count_at next (get_or slots i d).0 < next
+slot_entries-below from next [] up i d inside = absurd (omega arith)
+slot_entries-below from next (e ∷ slots) up zero d inside = let rest = Rises-bounds (count_at next e.0 + 1) next (slot_entries next slots) up.1 in omega (arith, rest.0, rest.1)
+slot_entries-below from next (e ∷ slots) up (suc i) d inside = slot_entries-below (count_at next e.0 + 1) next slots up.1 i d (omega arith)
 
-pub non_decreasing : (from next : ℕ) (slots : List Entry) → Rises from next (given next slots) → IsNonDecreasingBy (λ (e : Entry). count_at next e.0) slots
+pub non_decreasing : (from next : ℕ) (slots : List Entry) → Rises from next (slot_entries next slots) → IsNonDecreasingBy (λ (e : Entry). count_at next e.0) slots
 non_decreasing from next [] up i j d le inside = absurd (omega arith)
 non_decreasing from next (e ∷ slots) up zero zero d le inside = omega arith
-non_decreasing from next (e ∷ slots) up zero (suc j) d le inside = let later = given-at (count_at next e.0 + 1) next slots up.1 j d (omega arith) in omega arith
+non_decreasing from next (e ∷ slots) up zero (suc j) d le inside = let later = slot_entries-at (count_at next e.0 + 1) next slots up.1 j d (omega arith) in omega arith
 non_decreasing from next (e ∷ slots) up (suc i) zero d le inside = absurd (omega arith)
 non_decreasing from next (e ∷ slots) up (suc i) (suc j) d le inside = non_decreasing (count_at next e.0 + 1) next slots up.1 i j d (omega arith) (omega arith)
 
@@ -46,9 +46,9 @@ begins-live next e slots begins =
     ]
 
 -- the first slot has the least COUNT
-pub given-least : (from next : ℕ) (slots : List Entry) → Rises from next (given next slots) → begins_empty next slots ≡ false → Rises (least next (live next slots)) next (given next slots)
-given-least from next [] up begins = omega arith
-given-least from next (e ∷ slots) up begins =
+pub slot_entries-least : (from next : ℕ) (slots : List Entry) → Rises from next (slot_entries next slots) → begins_empty next slots ≡ false → Rises (least next (live next slots)) next (slot_entries next slots)
+slot_entries-least from next [] up begins = omega arith
+slot_entries-least from next (e ∷ slots) up begins =
     let here = begins-live next e slots begins in
     let rises : Rises from next (e ∷ live next slots) = rw here at (live-rises from next (e ∷ slots) up) in
     let first = least-first from next e (live next slots) rises in
@@ -73,7 +73,7 @@ kept-past count from next (e ∷ es) up past =
     rw apart (kept-past count (e.0 + 1) next es up.1 (omega (arith, up.0)))
 
 -- the COUNT is not at its place: it is not kept
-pub kept-place : (count from next : ℕ) (slots : List Entry) (i : ℕ) → Rises from next (given next slots) → IsSlotPlace next count slots i
+pub kept-place : (count from next : ℕ) (slots : List Entry) (i : ℕ) → Rises from next (slot_entries next slots) → IsSlotPlace next count slots i
     → ((d : Entry) → i < length slots → (get_or slots i d).0 ≡ count → is_live next count ≡ true → ⊥) → is_kept (live next slots) count ≡ false
 kept-place count from next [] i up at other = refl
 kept-place count from next (x ∷ slots) zero up at other =
@@ -127,7 +127,7 @@ live-rest next (e ∷ slots) begins =
 pub slots-rest : (next : ℕ) (slots : List Entry) → AreSlots next slots → AreSlots next (drop 1 slots)
 slots-rest next [] are = are
 slots-rest next (e ∷ slots) are =
-    record { from = are.from; near = are.near; rises = Rises-weaker are.from (count_at next e.0 + 1) next (given next slots) (omega (arith, are.rises.0)) are.rises.1 }
+    record { from = are.from; near = are.near; rises = Rises-weaker are.from (count_at next e.0 + 1) next (slot_entries next slots) (omega (arith, are.rises.0)) are.rises.1 }
 
 pub begins-some : (next : ℕ) (slots : List Entry) → begins_empty next slots ≡ true → 0 < length slots
 begins-some next [] begins = absurd (cc (begins))

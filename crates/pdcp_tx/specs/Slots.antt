@@ -28,14 +28,14 @@ abbrev pub is_due : ℕ → ℕ → List ℕ → ℕ → Bool
 is_due next fmc bits mark = is_live next mark && names fmc bits mark
 
 -- all slots, under their COUNTs
-abbrev pub given : ℕ → List Entry → List Entry
-given next slots = map (λ e. (count_at next e.0, e.1)) slots
+abbrev pub slot_entries : ℕ → List Entry → List Entry
+slot_entries next slots = map (λ e. (count_at next e.0, e.1)) slots
 
 -- the COUNTs of the slots rise, below next and near it
 pub record AreSlots (next : ℕ) (slots : List Entry) : Type 0 where
   pub from : ℕ
   pub near : next ≤ from + 2 ^ 17
-  pub rises : Rises from next (given next slots)
+  pub rises : Rises from next (slot_entries next slots)
 
 -- whether the first slot is empty
 abbrev pub begins_empty : ℕ → List Entry → Bool
@@ -43,7 +43,7 @@ begins_empty next [] = false
 begins_empty next (e ∷ slots) = not (is_live next e.0)
 
 -- what is kept is in the window, and the first slot is not empty
-pub record IsKept (n : SnLen) (next : ℕ) (kept : List Entry) : Type 0 where
+pub record IsSlotQueue (n : SnLen) (next : ℕ) (kept : List Entry) : Type 0 where
   pub window : InWindow n next (live next kept)
   pub slots : AreSlots next kept
   pub begins : begins_empty next kept ≡ false

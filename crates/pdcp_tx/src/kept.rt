@@ -20,7 +20,7 @@ pub(crate) type Kept = VecDeque<(u32, Octets)>;
 
 /// Whether the slot with this mark has its SDU.
 #[tactic(auto, unfolding(crate::specs::Slots::is_live))]
-fn is_live(next: u32, mark: u32) -> bool
+pub(crate) fn is_live(next: u32, mark: u32) -> bool
     ensures { result ≡ is_live next mark }
 {
     let away = if mark < next {
@@ -131,6 +131,7 @@ pub(crate) fn drop_one(kept: &mut Kept, next: u32, count: u32)
     drop_empty(kept, next);
 }
 
+/// Drops the SDU with this COUNT, where it is kept. Its slot stays.
 fn empty_one(kept: &mut Kept, next: u32, count: u32)
     requires { AreSlots next kept.old.items }
     ensures live { live next kept.new.items ≡ filter (λ e. not (e.0 == count)) (live next kept.old.items) }
@@ -163,6 +164,7 @@ fn drop_empty(kept: &mut Kept, next: u32)
     }
 }
 
+/// Whether the first slot is empty.
 fn begins_empty(kept: &Kept, next: u32) -> bool
     ensures { result ≡ begins_empty next kept.now.items }
 {
@@ -184,6 +186,7 @@ pub(crate) fn drop_named(kept: &mut Kept, next: u32, fmc: u32, bits: &[u8])
     drop_empty(kept, next);
 }
 
+/// Drops all SDUs whose COUNTs a status report names. Their slots stay.
 fn empty_named(kept: &mut Kept, next: u32, fmc: u32, bits: &[u8])
     requires { AreSlots next kept.old.items }
     ensures live { live next kept.new.items ≡ filter (λ e. not (names fmc bits.now e.0)) (live next kept.old.items) }
@@ -195,6 +198,7 @@ fn empty_named(kept: &mut Kept, next: u32, fmc: u32, bits: &[u8])
     }
 }
 
+/// Drops the SDU in this place, if it is there and a status report names its COUNT. Its slot stays.
 fn empty_if_named(kept: &mut Kept, next: u32, place: usize, fmc: u32, bits: &[u8])
     requires slots { AreSlots next kept.old.items }
     requires inside { place < length kept.old.items }

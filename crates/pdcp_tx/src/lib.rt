@@ -3,8 +3,10 @@
 #![tactic(auto)]
 
 mod kept;
+mod kept_sdus;
 mod tx;
 
+pub use kept_sdus::KeptSdus;
 pub use tx::{Tx, TxErr, TxParts};
 
 #[cfg(test)]

@@ -37,6 +37,11 @@ fn keeps_what_no_report_names(rt: HostRuntime) -> Result<(), Fail> {
     let kept = tx.unconfirmed().ok().ok_or("memory")?;
     assert_eq!(rt; kept.as_slice(), [6, 7, 9, 10].as_slice());
     tx.confirm(9);
+    let mut kept = tx.kept();
+    assert_eq!(rt; kept.next(), Some((6, [1].as_slice())));
+    assert_eq!(rt; kept.next(), Some((7, [2].as_slice())));
+    assert_eq!(rt; kept.next(), Some((10, [5].as_slice())));
+    assert_eq!(rt; kept.next(), None);
     tx.hold(sdu(alloc, 7)?).ok().ok_or("memory")?;
     let tx = Tx::adopt(tx.freeze());
     let kept = tx.unconfirmed().ok().ok_or("memory")?;

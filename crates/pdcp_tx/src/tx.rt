@@ -1,13 +1,14 @@
 //! The transmitting entity.
 
 ghost use Rattle.std.specs.Prelude.{◌≡◌, ◌+◌, ◌-◌, ◌<◌, ◌≤◌, ◌^◌, [], All, Ok, IfOk, IfErr, OnOk, OnErr};
-ghost use Rattle.pdcp_tx.specs.Sending.{taken, holding, numbered, confirmed, reported, IsRefused};
+ghost use Rattle.pdcp_tx.specs.Sending.{take_sdu, hold_sdu, give_numbers, confirm_count, take_report, IsRefused};
 ghost use Rattle.std.specs.List.Sorted.{IsStrictlyIncreasing};
 ghost use Rattle.std.specs.Option.{option_copied};
 ghost use Rattle.dc_base.specs.Count.{window};
 ghost use Rattle.pdcp_tx.specs.Sender.{counts, low, sdu_at};
 
 use crate::kept::{Kept, counts_of, drop_named, drop_one, into_live, least, number_all, sdu_at};
+use crate::kept_sdus::KeptSdus;
 use dc_base::{Memory, Octets, Seq, SnLen, window};
 use std::alloc::Global;
 use std::collections::VecDeque;
@@ -53,13 +54,13 @@ pub struct Tx {
 
 impl Model for Tx {
     ghost use Rattle.pdcp_tx.specs.Sender.{Sender};
-    ghost use Rattle.pdcp_tx.specs.Slots.{live, IsKept};
+    ghost use Rattle.pdcp_tx.specs.Slots.{live, IsSlotQueue};
 
     ghost Value = { Sender };
 
     ghost view = { λ a. record { n = a.n; next = a.next; kept = live a.next a.kept.items; held = a.held.items } };
 
-    ghost invariant = { λ a. IsKept a.n a.next a.kept.items };
+    ghost invariant = { λ a. IsSlotQueue a.n a.next a.kept.items };
 }
 
 impl Tx {
@@ -79,8 +80,8 @@ impl Tx {
     /// window, and else `Exhausted` exactly where `next` is 2^32 - 1. After an error the entity is as before,
     /// and the SDU is gone.
     pub fn take(&mut self, sdu: Octets) -> Result<u32, TxErr>
-        ensures ok { IfOk result (λ count. taken self.old sdu ≡ Ok (self.new, count)) }
-        ensures err { IfErr result (IsRefused (taken self.old sdu)) }
+        ensures ok { IfOk result (λ count. take_sdu self.old sdu ≡ Ok (self.new, count)) }
+        ensures err { IfErr result (IsRefused (take_sdu self.old sdu)) }
         ensures same { OnErr result (self.new ≡ self.old) }
     {
         let low = least(&self.kept, self.next);
@@ -105,21 +106,19 @@ impl Tx {
 
     /// Keeps an SDU without a COUNT, behind those that wait already. After `Memory` the entity is as before.
     pub fn hold(&mut self, sdu: Octets) -> Result<(), Memory>
-        ensures ok { OnOk result (self.new ≡ holding self.old sdu) }
+        ensures ok { OnOk result (self.new ≡ hold_sdu self.old sdu) }
         ensures err { OnErr result (self.new ≡ self.old) }
     {
-        match self.held.push_back(sdu) {
-            Ok(()) => Ok(()),
-            Err(_) => Err(Memory),
-        }
+        self.held.push_back(sdu)?;
+        Ok(())
     }
 
     /// Gives the next COUNTs to all SDUs that wait, in order, and answers them. It is `Full` exactly where the
     /// window has no room for all, and else `Exhausted` exactly where one would have COUNT 2^32 - 1. After an
     /// error the entity is as before.
     pub fn give_numbers(&mut self) -> Result<Seq<u32>, TxErr>
-        ensures ok { IfOk result (λ given. numbered self.old ≡ Ok (self.new, given)) }
-        ensures err { IfErr result (IsRefused (numbered self.old)) }
+        ensures ok { IfOk result (λ given. give_numbers self.old ≡ Ok (self.new, given)) }
+        ensures err { IfErr result (IsRefused (give_numbers self.old)) }
         ensures same { OnErr result (self.new ≡ self.old) }
     {
         let low = least(&self.kept, self.next);
@@ -145,14 +144,14 @@ impl Tx {
 
     /// The SDU with this COUNT was received: it is dropped. A COUNT that is not kept changes nothing.
     pub fn confirm(&mut self, count: u32)
-        ensures { self.new ≡ confirmed self.old count }
+        ensures { self.new ≡ confirm_count self.old count }
     {
         drop_one(&mut self.kept, self.next, count);
     }
 
     /// A status report came: the SDUs whose COUNTs it names are dropped (TS 38.323, 5.4.2).
     pub fn on_report(&mut self, fmc: u32, bits: &[u8])
-        ensures { self.new ≡ reported self.old fmc bits.now }
+        ensures { self.new ≡ take_report self.old fmc bits.now }
     {
         drop_named(&mut self.kept, self.next, fmc, bits);
     }
@@ -161,10 +160,18 @@ impl Tx {
     pub fn unconfirmed(&self) -> Result<Seq<u32>, Memory>
         ensures { IfOk result (λ found. found ≡ counts self.now.kept) }
     {
-        match counts_of(&self.kept, self.next) {
-            Ok(found) => Ok(Seq::from_vec(found)),
-            Err(_) => Err(Memory),
-        }
+        Ok(Seq::from_vec(counts_of(&self.kept, self.next)?))
+    }
+
+    /// The SDUs that are not confirmed, each with its COUNT, in ascending COUNT, lent out: a recovery sends them again
+    /// (TS 38.323, 5.5). It takes no memory.
+    pub fn kept(&self) -> KeptSdus<'_>
+        ensures all { result ≡ self.now.kept }
+        ensures ascending { IsStrictlyIncreasing (counts self.now.kept) }
+        ensures below { All (λ count. count < self.now.next) (counts self.now.kept) }
+        ensures near { All (λ count. self.now.next ≤ count + window self.now.n) (counts self.now.kept) }
+    {
+        KeptSdus::of(&self.kept, self.next)
     }
 
     /// The SDU with this COUNT: `None` exactly where it is not kept.

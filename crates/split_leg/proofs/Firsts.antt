@@ -5,7 +5,7 @@ use Rattle.std.proofs.lemmas.Bool.{cases_lt}
 use Rattle.std.proofs.lemmas.Bool.Decides.{nat_tests}
 use Rattle.std.proofs.lemmas.List.{take-append-le, take_all, length-append}
 use Rattle.std.proofs.lemmas.List.Folds.{list_any-append}
-use Rattle.split_leg.specs.Kept.{is_below, noted}
+use Rattle.split_leg.specs.Indexes.{is_below, first_after}
 
 -- the first element that passes test c is at place `first c`
 abbrev IsFirsts : {X : Type 0} → (ℕ → X → Bool) → List X → (ℕ → Option ℕ) → Type 0
@@ -23,19 +23,19 @@ first_within test xs f h c n e =
     grind (arith, nat_tests, same))
     (cases_lt n (length xs))
 
-below_noted : (o : Option ℕ) (b : Bool) (len k : ℕ) → k ≤ len → is_below k o ≡ is_below k (noted b len o)
-below_noted (Some n) b len k le = refl
-below_noted None true len k le = grind (arith, nat_tests)
-below_noted None false len k le = refl
+below_after : (o : Option ℕ) (b : Bool) (len k : ℕ) → k ≤ len → is_below k o ≡ is_below k (first_after b len o)
+below_after (Some n) b len k le = refl
+below_after None true len k le = grind (arith, nat_tests)
+below_after None false len k le = refl
 
-below_pushed : (o : Option ℕ) (b : Bool) (len k : ℕ) → ((n : ℕ) → o ≡ Some n → n < len) → len < k → is_below len o || (b || false) ≡ is_below k (noted b len o)
+below_pushed : (o : Option ℕ) (b : Bool) (len k : ℕ) → ((n : ℕ) → o ≡ Some n → n < len) → len < k → is_below len o || (b || false) ≡ is_below k (first_after b len o)
 below_pushed (Some n) b len k inside lt = let within : n < len = inside n refl in grind (arith, nat_tests)
 below_pushed None true len k inside lt = grind (arith, nat_tests)
 below_pushed None false len k inside lt = refl
 
 -- after one more element
 pub firsts_push : {X : Type 0} (test : ℕ → X → Bool) (xs : List X) (f g : ℕ → Option ℕ) (x : X) → ((c k : ℕ) → list_any (test c) (take k xs) ≡ is_below k (f c))
-    → ((c : ℕ) → g c ≡ noted (test c x) (length xs) (f c)) → (c k : ℕ) → list_any (test c) (take k (xs ++ x ∷ [])) ≡ is_below k (g c)
+    → ((c : ℕ) → g c ≡ first_after (test c x) (length xs) (f c)) → (c k : ℕ) → list_any (test c) (take k (xs ++ x ∷ [])) ≡ is_below k (g c)
 firsts_push test xs f g x h notes c k =
     ⊎_elim
     (λ past.
@@ -44,7 +44,7 @@ firsts_push test xs f g x h notes c k =
     ap (list_any (test c)) (take_all k (xs ++ x ∷ []) long) ∙ list_any-append (test c) xs (x ∷ [])
     ∙ ap (λ b. b || (test c x || false)) all ∙ below_pushed (f c) (test c x) (length xs) k (first_within test xs f h c) past ∙ ap (is_below k) (sym (notes c)))
     (λ within.
-    ap (list_any (test c)) (take-append-le k xs (x ∷ []) within) ∙ h c k ∙ below_noted (f c) (test c x) (length xs) k within ∙ ap (is_below k) (sym (notes c)))
+    ap (list_any (test c)) (take-append-le k xs (x ∷ []) within) ∙ h c k ∙ below_after (f c) (test c x) (length xs) k within ∙ ap (is_below k) (sym (notes c)))
     (cases_lt (length xs) k)
 
 -- an element in place of one with the same answer changes no answer

@@ -1,3 +1,5 @@
-mod Outstanding
+-- What several proofs share.
 mod Firsts
+mod OpenKeys
+mod Outstanding
 mod Acks

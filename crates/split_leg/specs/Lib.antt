@@ -2,5 +2,5 @@
 pub mod Routing
 pub mod Stored
 pub mod Legs
-pub mod Kept
+pub mod Indexes
 pub mod Routes

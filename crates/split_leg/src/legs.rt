@@ -64,6 +64,17 @@ impl Legs {
         }
     }
 
+    /// Whether the bearer has the leg, and it did not fail.
+    pub fn is_live(&self, cell: Cell) -> bool
+        ensures { result ≡ is_live self.now cell }
+    {
+        let failed = match cell {
+            Cell::Mcg => self.mcg.is_failed(),
+            Cell::Scg => self.scg.is_failed(),
+        };
+        has_leg(self.shape.legs, cell) && !failed
+    }
+
     /// To which legs the next PDU goes (TS 38.323, 5.2.1 and 5.11.1).
     pub fn route(&self, policies: &Policies, is_data: bool) -> Route
         requires { self.now.policy < length (margins policies.now) }
@@ -83,7 +94,7 @@ impl Legs {
         }
     }
 
-    // The route of a data PDU where both legs are live.
+    /// The route of a data PDU where both legs are live.
     fn data_route(&self, policies: &Policies) -> Route
         requires { self.now.policy < length (margins policies.now) }
         ensures { result ≡ data_route self.now (margins policies.now) }
@@ -102,7 +113,7 @@ impl Legs {
         }
     }
 
-    // The primary leg, or the only one.
+    /// The primary leg, or the only one.
     fn primary(&self) -> Cell
         ensures { result ≡ primary_of self.now.shape.legs }
     {
@@ -113,23 +124,23 @@ impl Legs {
         }
     }
 
-    // Whether the bearer has the leg, and it did not fail.
-    fn is_live(&self, cell: Cell) -> bool
-        ensures { result ≡ is_live self.now cell }
-    {
-        let failed = match cell {
-            Cell::Mcg => self.mcg.is_failed(),
-            Cell::Scg => self.scg.is_failed(),
-        };
-        has_leg(self.shape.legs, cell) && !failed
-    }
-
     /// Begins the next send: a PDU of a COUNT that was put on a leg before is a repeat from now on.
     pub fn begin_send(&mut self)
         ensures { self.new ≡ with_send self.old }
     {
         self.mcg.begin_send();
         self.scg.begin_send();
+    }
+
+    /// How many PDUs were put on a leg: the number that the next one gets. `sent` may be called while it is below
+    /// 2^32 - 1.
+    pub fn next_num(&self, cell: Cell) -> u32
+        ensures { result ≡ length (leg_at self.now cell).pdus }
+    {
+        match cell {
+            Cell::Mcg => self.mcg.next_num(),
+            Cell::Scg => self.scg.next_num(),
+        }
     }
 
     /// Puts a PDU of `len` octets, at most 65,535, on a leg: a data PDU of this COUNT, or a control PDU.
@@ -154,7 +165,7 @@ impl Legs {
         }
     }
 
-    // Whether an earlier send put a PDU of this COUNT on a leg.
+    /// Whether an earlier send put a PDU of this COUNT on a leg.
     fn is_repeat(&self, count: Option<u32>) -> bool
         ensures { result ≡ is_repeat self.now count }
     {
@@ -215,7 +226,7 @@ impl Legs {
     }
 }
 
-// Whether a bearer of these legs has this one.
+/// Whether a bearer of these legs has this one.
 fn has_leg(legs: LegSet, cell: Cell) -> bool
     ensures { result ≡ has_leg legs cell }
 {

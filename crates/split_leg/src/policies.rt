@@ -48,7 +48,7 @@ impl Policy {
         }
     }
 
-    // The leg that the rule chooses.
+    /// The leg that the rule chooses.
     fn choose(&self, mcg: u64, scg: u64) -> Choice
         requires mcg { mcg < 2 ^ 48 }
         requires scg { scg < 2 ^ 48 }
@@ -58,7 +58,8 @@ impl Policy {
     }
 }
 
-/// The policies of a node, numbered from 0. Contracts see the two numbers of each, by `margins`.
+/// The policies of a node, numbered from 0, which may move to another thread (`Send`). Contracts see the two
+/// numbers of each, by `margins`.
 #[derive(Drop)]
 pub struct Policies {
     list: Vec<Policy>,

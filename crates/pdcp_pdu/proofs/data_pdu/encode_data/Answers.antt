@@ -5,5 +5,5 @@ use Rattle.pdcp_pdu.proofs.data_pdu.encode_data.Goals as goal
 
 pub returns-clause-again : goal.returns-clause-again
 returns-clause-again c =
-    let spelled : c.extend.new.self ≡ header c.args.n 0 c.args.sn ++ c.args.body.now = search rules in
-    rw spelled (data_again c.args.n 0 c.args.sn c.args.body.now c.requires.small c.requires.payload)
+    let spelled : c.from_vec.result ≡ header c.args.n 0 c.args.sn ++ c.args.body.now = search rules in
+    rw spelled (data_again c.args.n 0 c.args.sn c.args.body.now c.requires.small c.requires.some c.requires.most)

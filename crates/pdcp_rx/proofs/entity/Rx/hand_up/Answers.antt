@@ -23,7 +23,7 @@ pub returns-clause-ok : goal.returns-clause-ok
 returns-clause-ok c =
     let r : RxParts = record { n = c.self.inside.n; deliv = c.self.inside.deliv; stored = c.self.inside.stored.entries } in
     let gap = c.first_gap-gap.result in
-    let first : c.push.new.self.items ≡ (r.deliv, c.args.sdu) ∷ [] = (rw c.unwrap.ensures at c.push.ensures.items) ∙ ap (λ xs. xs ++ (r.deliv, c.args.sdu) ∷ []) c.in-Ok.ensures.items in
+    let first : c.push.new.self.items ≡ (r.deliv, c.args.sdu) ∷ [] = (rw c.unwrap.ensures at c.push.ensures.items) ∙ ap (λ xs. xs ++ (r.deliv, c.args.sdu) ∷ []) c.in_ok-handed.ensures.items in
     let handed : c.from_vec.result ≡ (r.deliv, c.args.sdu) ∷ take (gap - r.deliv - 1) r.stored = c.from_vec.ensures ∙ c.take_first.ensures.handed ∙ ap (λ xs. xs ++ take (gap - r.deliv - 1) r.stored) first in
     let there : ◌≡◌ {A = RxParts × Put} (record r { deliv = gap; stored = c.take_first.new.stored.entries }, Stored c.from_vec.result) (put r r.deliv c.args.sdu) =
     rw (c.take_first.ensures.left, handed) (sym (put_next r gap c.args.sdu c.self.invariant c.first_gap-gap.ensures)) in

@@ -1,6 +1,6 @@
 use Rattle.std.proofs.Common.{◌<◌, arith}
 use Rattle.pdcp_pdu.proofs.Reading.{small_12, small_18}
-use Rattle.pdcp_pdu.proofs.data_pdu.push_header.Goals as goal
+use Rattle.pdcp_pdu.proofs.data_pdu.write_header.Goals as goal
 
 pub overflow_cast-sn : goal.overflow_cast-sn
 overflow_cast-sn c = let small : c.args.sn < 4096 = small_12 c.args.n c.args.sn c.in-S12.is c.requires in omega arith
