@@ -13,3 +13,13 @@ loop-count-preserved-in_ok-insert c =
     let all : came ++ (c.in-Some.count, c.in-Some.sdu) ∷ rest ≡ c.args.parts.stored = ap (λ xs. came ++ xs) (sym steps.0) ∙ c.loop-count.invariant in
     let ascends = subst (AscendFrom (c.args.parts.deliv + 1)) (sym all) c.requires.ascends in
     ap (λ xs. xs ++ rest) (entries ∙ insert_entry-last (c.args.parts.deliv + 1) c.in-Some.count c.in-Some.sdu came rest ascends) ∙ append_assoc came ((c.in-Some.count, c.in-Some.sdu) ∷ []) rest ∙ all
+
+pub loop-count-preserved : goal.loop-count-preserved
+loop-count-preserved c =
+    let came = c.loop-count.stored.entries in
+    let rest = into_iter_items c.next.new.self in
+    let steps = rw c.in-Some.is at c.next.ensures.steps in
+    let entries = c.in_ok-insert.ensures.entries in
+    let all : came ++ (c.in-Some.count, c.in-Some.sdu) ∷ rest ≡ c.args.parts.stored = ap (λ xs. came ++ xs) (sym steps.0) ∙ c.loop-count.invariant in
+    let ascends = subst (AscendFrom (c.args.parts.deliv + 1)) (sym all) c.requires.ascends in
+    ap (λ xs. xs ++ rest) (entries ∙ insert_entry-last (c.args.parts.deliv + 1) c.in-Some.count c.in-Some.sdu came rest ascends) ∙ append_assoc came ((c.in-Some.count, c.in-Some.sdu) ∷ []) rest ∙ all
