@@ -1,4 +1,5 @@
 pub mod Again
 pub mod Headers
 pub mod Places
+pub mod Reading
 pub mod Unique

@@ -5,6 +5,7 @@ ghost use Rattle.std.specs.Option.{option_copied};
 ghost use Rattle.gtpu.specs.Content.{Content, view, kind_of};
 ghost use Rattle.gtpu.specs.Grammar.{HasHeader, IsAfterTeid, IsPacket};
 ghost use Rattle.gtpu.specs.Fault.{header_fault, HasExtensionFault, HasFault};
+ghost use Rattle.gtpu.specs.Decoded.{outcome, decoded};
 
 use crate::extensions::{self, Said};
 use crate::faults::GtpErr;
@@ -104,6 +105,8 @@ pub fn decode(input: &[u8]) -> Result<Packet<'_>, GtpErr>
     // An error is the first check that fails, and where a check fails there is an error.
     ensures fault { IfErr result (λ e. HasFault input.now e) }
     ensures first { (e : GtpErr) → HasFault input.now e → IsErrOf result e }
+    // Both as one function of the octets.
+    ensures read { outcome result ≡ decoded input.now }
 {
     packet(input)
 }
