@@ -3,3 +3,4 @@ pub mod Headers
 pub mod Places
 pub mod Reading
 pub mod Unique
+pub mod Rows

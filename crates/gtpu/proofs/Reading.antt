@@ -19,7 +19,7 @@ use Rattle.gtpu.specs.Fault.{header_fault, is_misshapen, is_second, extension_fa
 use Rattle.gtpu.specs.Decoded.{Parts, outcome, content_of, behind, extensions_from, parts_of, with_parts, of_kind, behind_checks, decoded}
 use Rattle.gtpu.specs.Walk.{Splits, Joins}
 use Rattle.gtpu.proofs.Headers.{extends}
-use Rattle.gtpu.proofs.Places.{numbered_at, extended_at}
+use Rattle.gtpu.proofs.Places.{sequenced_at, extended_at}
 use Rattle.gtpu.proofs.Unique.{one_packet, no_fault, one_fault}
 
 -- ---- one extension header
@@ -69,7 +69,6 @@ abbrev AreRead : List ℕ → Result Parts GtpErr → Type 0
 AreRead octets r = MatchResult r (λ x. AreExtensions (drop 11 octets) x.container x.number (0 ∷ x.body)) (HasExtensionFault octets)
 
 reads_on : (headers : ℕ) (octets : List ℕ) (c : Option (List ℕ)) (n : Option PduNumber) (type : ℕ) (after : List ℕ) → length after < headers → AreExtensions (drop 11 octets) c n (type ∷ after) → AreRead octets (extensions_from headers (length octets) c n type after)
-unfolding extensions_from
 reads_on zero octets c n type after less before = absurd (omega arith)
 reads_on (suc headers) octets c n type after less before =
     elim (cases_Bool (eqb type 0)) [
@@ -112,7 +111,7 @@ parts_read octets flags numbers =
           elim (cases_Bool (ltb flags 4)) [
             | inl less ↦
                 let all : take (length octets - 12) (drop 12 octets) ≡ drop 12 octets = ap (λ n. take n (drop 12 octets)) (sym (length-drop 12 octets)) ∙ take-length (drop 12 octets) in
-                rw (other, less, parts_of) (subst (λ (body : List ℕ). IsAfterTeid flags None None body (drop 8 octets)) all (numbered_at flags octets some (ltb-true flags 4 less) long))
+                rw (other, less, parts_of) (subst (λ (body : List ℕ). IsAfterTeid flags None None body (drop 8 octets)) all (sequenced_at flags octets some (ltb-true flags 4 less) long))
             | inr more ↦
                 let four = ltb-false flags 4 more in
                 let before : AreExtensions (drop 11 octets) None None (get_or octets 11 0 ∷ drop 12 octets) =

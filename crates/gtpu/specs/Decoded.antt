@@ -35,7 +35,7 @@ behind (units ∷ after) = drop (4 * units - 2) after
 
 -- The extension headers from one of this type on, of a packet of this size, and the body behind a next type of
 -- 0. A container and a number may have come before. There are fewer headers than octets.
-unfoldable pub extensions_from : ℕ → ℕ → Option (List ℕ) → Option PduNumber → ℕ → List ℕ → Result Parts GtpErr
+abbrev pub extensions_from : ℕ → ℕ → Option (List ℕ) → Option PduNumber → ℕ → List ℕ → Result Parts GtpErr
 extensions_from zero size container number type after = Err (Short size)
 extensions_from (suc headers) size container number type after =
     elim (type == 0) [

@@ -14,12 +14,12 @@ use crate::packet::{GtpKind, Packet, PduNumber};
 use dc_base::{Memory, Octets};
 use std::alloc::Global;
 
-/// The first octet: version 1, PT 1, and no flag.
+/// The first octet (TS 29.281, 5.1): version 1, PT 1, and no flag.
 const PLAIN: u8 = 0x30;
 /// The same with the flag E.
 const EXTENDED: u8 = 0x34;
 
-/// The octet that names the message type.
+/// The octet that names the message type (TS 29.281, 6.1).
 fn message_type(kind: GtpKind) -> u8
     ensures { result ≡ message_type kind }
 {
