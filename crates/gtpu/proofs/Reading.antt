@@ -1,5 +1,5 @@
 -- Octets are read as the packet that they are, or as the first check that they fail.
-use Rattle.std.proofs.Common.{◌≡◌, ℕ, zero, suc, ◌+◌, ◌-◌, ◌*◌, ◌/◌, ◌%◌, ◌^◌, ◌<◌, ◌≤◌, inl, inr, Bool, false, true, cond, not, ◌&&◌, ◌||◌, eqb, ltb, List, [], ◌∷◌, ◌++◌, length, take, drop, get_or, Option, Some, None, refl, sym, ap, subst, ◌∙◌, arith, length-append, drop-cons, length-drop}
+use Rattle.std.proofs.Common.{◌≡◌, ℕ, zero, suc, ◌+◌, ◌-◌, ◌*◌, ◌/◌, ◌%◌, ◌^◌, ◌<◌, ◌≤◌, inl, inr, Bool, false, true, cond, not, ◌&&◌, ◌||◌, eqb, ltb, List, [], ◌∷◌, ◌++◌, length, take, drop, get_or, Option, Some, None, refl, sym, ap, subst, ◌∙◌, arith, drop-cons, length-drop}
 use Rattle.std.specs.Prelude.{is_some, is_none, Result, Ok, Err, MatchResult}
 use Rattle.std.specs.Option.{option_to_list, option_or}
 use Rattle.std.specs.Int.{w16, w32, to_be_bytes, from_be_bytes}
@@ -15,7 +15,7 @@ use Rattle.gtpu.specs.declared.packet.Packet.{Packet}
 use Rattle.gtpu.specs.Content.{Content, view, message_type, kind_of}
 use Rattle.gtpu.specs.Extension.{is_unknown_required, may_have_length, container_of, number_of, AreExtensions}
 use Rattle.gtpu.specs.Grammar.{IsAfterTeid, plain, HasHeader, IsPacket}
-use Rattle.gtpu.specs.Fault.{header_fault, is_misshapen, is_second, extension_fault, HasExtensionFault, HasFault}
+use Rattle.gtpu.specs.Fault.{header_fault, is_misshapen, is_second, HasExtensionFault, HasFault}
 use Rattle.gtpu.specs.Decoded.{Parts, outcome, content_of, behind, extensions_from, parts_of, with_parts, of_kind, behind_checks, decoded}
 use Rattle.gtpu.specs.Walk.{Splits, Joins}
 use Rattle.gtpu.proofs.Headers.{extends}

@@ -1,5 +1,5 @@
 -- Rows of packets, read by computation: `refl` alone shows what octets say.
-use Rattle.std.proofs.Common.{◌≡◌, [], ◌∷◌, Some, None, refl}
+use Rattle.std.proofs.Common.{◌≡◌, [], ◌∷◌, Some, refl}
 use Rattle.std.specs.Prelude.{Ok, Err}
 use Rattle.gtpu.specs.declared.faults.GtpErr.TheVariants as fault
 use Rattle.gtpu.specs.declared.packet.GtpKind.TheVariants.{GPdu}

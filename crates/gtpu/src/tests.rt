@@ -1,5 +1,10 @@
+ghost use Rattle.std.specs.Prelude.{◌+◌, ◌^◌, ◌<◌, length, IfSome};
+ghost use Rattle.std.specs.Option.{option_copied};
+ghost use Rattle.gtpu.specs.Content.{view};
+ghost use Rattle.gtpu.specs.Spelling.{extensions, IsContainer, FitsLong};
+
 use super::*;
-use std::test::Fail;
+use std::alloc::Global;
 
 /// A downlink PDU to a host: an NR RAN container, and a PDCP PDU.
 const TO_HOST: [u8; 24] = [
@@ -246,86 +251,85 @@ fn one_octet_and_two(rt: HostRuntime) {
     }
 }
 
-/// A packet, and the octets in which it is written, made as in the table of what is read.
-#[test]
-fn writes(rt: HostRuntime) -> Result<(), Fail> {
-    let table = [
-        (
-            says(
-                GtpKind::GPdu,
-                128,
-                Some(b"\x01\x00\x00\x00\x00\x00".as_slice()),
-                None,
-                b"\x80\x00\x68\x69",
-            ),
-            b"\x34\xff\x00\x10\x00\x00\x00\x80\x00\x00\x00\x84\x02\x01\x00\x00\x00\x00\x00\x00\x80\x00\x68\x69".as_slice(),
-        ),
-        (
-            says(
-                GtpKind::GPdu,
-                385,
-                Some(b"\x01\x00\x00\x00\x00\x00".as_slice()),
-                Some(PduNumber::Short(0x0)),
-                b"\xaa",
-            ),
-            b"\x34\xff\x00\x11\x00\x00\x01\x81\x00\x00\x00\x84\x02\x01\x00\x00\x00\x00\x00\xc0\x01\x00\x00\x00\xaa".as_slice(),
-        ),
-        (
-            says(
-                GtpKind::GPdu,
-                1,
-                None,
-                Some(PduNumber::Long(0x2abcd)),
-                b"\xaa",
-            ),
-            b"\x34\xff\x00\x0d\x00\x00\x00\x01\x00\x00\x00\x82\x02\x02\xab\xcd\x00\x00\x00\x00\xaa".as_slice(),
-        ),
-        (
-            says(
-                GtpKind::GPdu,
-                385,
-                Some(b"\x00\x00\x00\x02\x00\x00".as_slice()),
-                None,
-                b"",
-            ),
-            b"\x34\xff\x00\x0c\x00\x00\x01\x81\x00\x00\x00\x84\x02\x00\x00\x00\x02\x00\x00\x00".as_slice(),
-        ),
-        (
-            says(GtpKind::EndMarker, 385, None, None, b""),
-            b"\x30\xfe\x00\x00\x00\x00\x01\x81".as_slice(),
-        ),
-        (
-            says(GtpKind::EchoRequest, 0, None, None, b""),
-            b"\x30\x01\x00\x00\x00\x00\x00\x00".as_slice(),
-        ),
-        (
-            says(GtpKind::EchoResponse, 0, None, None, b"\x0e\x07"),
-            b"\x30\x02\x00\x02\x00\x00\x00\x00\x0e\x07".as_slice(),
-        ),
-        (
-            says(
-                GtpKind::ErrorIndication,
-                4294967295,
-                None,
-                Some(PduNumber::Short(0xabc)),
-                b"",
-            ),
-            b"\x34\x1a\x00\x08\xff\xff\xff\xff\x00\x00\x00\xc0\x01\x0a\xbc\x00".as_slice(),
-        ),
-        (
-            says(
-                GtpKind::GPdu,
-                385,
-                Some(b"\x01\x00".as_slice()),
-                Some(PduNumber::Long(0x3ffff)),
-                b"\xbb",
-            ),
-            b"\x34\xff\x00\x11\x00\x00\x01\x81\x00\x00\x00\x84\x01\x01\x00\x82\x02\x03\xff\xff\x00\x00\x00\x00\xbb".as_slice(),
-        ),
-    ];
-    for (packet, expected) in table {
-        let octets = encode(rt.alloc(), &packet).ok().ok_or("memory")?;
-        assert_eq!(rt; octets.as_slice(), expected);
+/// Whether a packet is written as these octets, with memory for it.
+fn is_written(alloc: Global, p: &Packet<'_>, octets: &[u8]) -> bool
+    requires length { length (extensions (view p.now)) + length p.now.body.now < 2 ^ 16 }
+    requires container { IfSome (option_copied p.now.container) IsContainer }
+    requires number { IfSome p.now.number FitsLong }
+{
+    match encode(alloc, p) {
+        Ok(made) => made.as_slice() == octets,
+        Err(_) => false,
     }
-    Ok(())
+}
+
+/// Packets of each message type, and the octets in which they are written, made as in the table of what is read.
+#[test]
+fn writes(rt: HostRuntime) {
+    let packet = Packet {
+        kind: GtpKind::GPdu,
+        teid: 128,
+        container: Some(&[1, 0, 0, 0, 0, 0]),
+        number: None,
+        body: &[128, 0, 104, 105],
+    };
+    let octets =
+        b"\x34\xff\x00\x10\x00\x00\x00\x80\x00\x00\x00\x84\x02\x01\x00\x00\x00\x00\x00\x00\x80\x00\x68\x69";
+    assert!(rt; is_written(rt.alloc(), &packet, octets));
+    let packet = Packet {
+        kind: GtpKind::GPdu,
+        teid: 385,
+        container: Some(&[1, 0, 0, 0, 0, 0]),
+        number: Some(PduNumber::Short(0x0)),
+        body: &[170],
+    };
+    let octets =
+        b"\x34\xff\x00\x11\x00\x00\x01\x81\x00\x00\x00\x84\x02\x01\x00\x00\x00\x00\x00\xc0\x01\x00\x00\x00\xaa";
+    assert!(rt; is_written(rt.alloc(), &packet, octets));
+    let packet = Packet {
+        kind: GtpKind::GPdu,
+        teid: 1,
+        container: None,
+        number: Some(PduNumber::Long(0x2abcd)),
+        body: &[170],
+    };
+    let octets =
+        b"\x34\xff\x00\x0d\x00\x00\x00\x01\x00\x00\x00\x82\x02\x02\xab\xcd\x00\x00\x00\x00\xaa";
+    assert!(rt; is_written(rt.alloc(), &packet, octets));
+    let packet = Packet {
+        kind: GtpKind::EndMarker,
+        teid: 385,
+        container: None,
+        number: None,
+        body: &[],
+    };
+    let octets = b"\x30\xfe\x00\x00\x00\x00\x01\x81";
+    assert!(rt; is_written(rt.alloc(), &packet, octets));
+    let packet = Packet {
+        kind: GtpKind::EchoRequest,
+        teid: 0,
+        container: None,
+        number: None,
+        body: &[],
+    };
+    let octets = b"\x30\x01\x00\x00\x00\x00\x00\x00";
+    assert!(rt; is_written(rt.alloc(), &packet, octets));
+    let packet = Packet {
+        kind: GtpKind::EchoResponse,
+        teid: 0,
+        container: None,
+        number: None,
+        body: &[14, 7],
+    };
+    let octets = b"\x30\x02\x00\x02\x00\x00\x00\x00\x0e\x07";
+    assert!(rt; is_written(rt.alloc(), &packet, octets));
+    let packet = Packet {
+        kind: GtpKind::ErrorIndication,
+        teid: 4294967295,
+        container: None,
+        number: Some(PduNumber::Short(0xabc)),
+        body: &[],
+    };
+    let octets = b"\x34\x1a\x00\x08\xff\xff\xff\xff\x00\x00\x00\xc0\x01\x0a\xbc\x00";
+    assert!(rt; is_written(rt.alloc(), &packet, octets));
 }
