@@ -1,35 +1,32 @@
 -- Whatever comes of a tunnel agrees with what was sent.
-use Rattle.std.proofs.Common.{◌≡◌, ℕ, ◌-◌, ◌^◌, ◌<◌, inl, inr, Bool, true, false, List, [], ◌∷◌, length, Option, Some, None, refl, sym, ap, subst, ◌∙◌, arith}
-use Rattle.std.specs.Prelude.{Contains, IsSome, is_some, slice_get, unwrap_or}
+use Rattle.std.proofs.Common.{◌≡◌, ℕ, ◌^◌, ◌<◌, inl, inr, Bool, true, false, List, [], ◌∷◌, ◌++◌, length, Option, Some, None, refl, sym, ap, subst, ◌∙◌, arith, zero, suc}
+use Rattle.std.specs.Prelude.{All, IsSome, is_some, slice_get, unwrap_or, Result, Ok, Err, OnOk, OnErr}
+use Rattle.dc_base.specs.declared.lists.Memory.{Memory}
 use Rattle.std.specs.List.{AllByRecursion}
 use Rattle.std.specs.Ordering.{nat_cmp, eq_by_cmp}
 use Rattle.std.specs.Cmp.{nat_cmp_total}
 use Rattle.std.specs.FinMap.{get, get-empty, get-insert}
-use Rattle.std.proofs.lemmas.Bool.{cases_Bool}
-use Rattle.std.proofs.lemmas.List.{same_lists}
+use Rattle.std.proofs.lemmas.Bool.{cases_Bool, both_ways}
+use Rattle.std.proofs.lemmas.List.{same_lists, append-nil}
 use Rattle.std.proofs.lemmas.List.Elements.{recursion_from_All}
 use Rattle.std.proofs.lemmas.Option.{unwrap_or-slice_get}
-use Rattle.dc_base.specs.declared.numbers.SnLen.{SnLen}
 use Rattle.gtpu.specs.Content.{Content}
 use Rattle.nr_u.specs.declared.frame.Frame.TheVariants.{User}
 use Rattle.nr_u.specs.Frames.{IsFrame}
 use Rattle.nr_u.proofs.Grammar.{one_frame}
 use Rattle.forward.specs.Load.{Sdu, Load, Piece, Total, Nothing, HasNumber, Carries}
-use Rattle.forward.specs.Outgoing.{packets_from}
-use Rattle.forward.specs.Incoming.{Incoming, nothing_came, after, IsListOf}
-use Rattle.forward.specs.Tunnel.{Comes, KeepsTheList}
+use Rattle.forward.specs.Incoming.{Incoming, nothing_came, after, IsDone, IsListOf}
+use Rattle.forward.specs.Outgoing.{total_packet}
+use Rattle.forward.specs.Tunnel.{Tunnel, IsPacketOf, sdu_of, total_of, marker_of, IsEndOf, IsLater, Comes, IsListSent}
 use Rattle.forward.proofs.Numbers.{same_key}
 use Rattle.forward.proofs.Frames.{IsSent, packet_sent}
 
--- each SDU that is there is the one of its number, and the total is their number
-record Agrees (sdus : List Sdu) (i : Incoming) : Type 0 where
-  each : (number : ℕ) (sdu : Sdu) → get i.sdus number ≡ Some sdu → slice_get sdus number ≡ Some sdu
-  whole : (total : ℕ) → i.total ≡ Some total → total ≡ length sdus
+-- ---- one packet more
 
-after_agrees : (sdus : List Sdu) (i : Incoming) (load : Load) → IsSent 0 sdus load → Agrees sdus i → Agrees sdus (after i load)
-after_agrees sdus i (Piece number sdu) sent agrees =
+after_sent : (t : Tunnel) (i : Incoming) (load : Load) → IsSent t load → IsEndOf t i → IsEndOf t (after i load)
+after_sent t i (Piece number sdu) sent end =
     elim (cases_Bool (is_some (get i.sdus number))) [
-      | inl there ↦ rw there agrees
+      | inl there ↦ rw there end
       | inr absent ↦ rw absent (record {
         each = λ q s is.
             let now = sym (get-insert nat_cmp_total i.sdus number sdu q) ∙ is in
@@ -37,51 +34,84 @@ after_agrees sdus i (Piece number sdu) sent agrees =
               | inl same ↦
                   let key : q ≡ number = same_key q number same in
                   let value : Some sdu ≡ Some s = rw same at now in
-                  let place : q ≡ number - 0 = omega arith in
-                  ap (slice_get sdus) place ∙ (sent.1 ∙ value)
-              | inr other ↦ agrees.each q s (rw other at now)
+                  ap (slice_get t.sdus) key ∙ (sent ∙ value)
+              | inr other ↦ end.each q s (rw other at now)
             ];
-        whole = agrees.whole;
+        whole = end.whole;
       })
     ]
-after_agrees sdus i (Total total) sent agrees =
+after_sent t i (Total total) sent end =
     elim (cases_Bool (is_some i.total)) [
-      | inl there ↦ rw there agrees
+      | inl there ↦ rw there end
       | inr absent ↦ rw absent (record {
-        each = agrees.each;
-        whole = λ t is. let same : total ≡ t = cc in omega (arith, sent);
+        each = end.each;
+        whole = λ n is. let same : total ≡ n = cc in (sent.0, sym same ∙ sent.1);
       })
     ]
-after_agrees sdus i Nothing sent agrees = agrees
+after_sent t i Nothing sent end = end
 
-run_agrees : (teid : ℕ) (n : SnLen) (sdus : List Sdu) → length sdus < 2 ^ 24 → (came : List Content) → AllByRecursion (Contains (packets_from teid n 0 sdus)) came → (i now : Incoming) → Comes i came now → Agrees sdus i → Agrees sdus now
-run_agrees teid n sdus fits [] all i now run agrees = subst (Agrees sdus) (sym run) agrees
-run_agrees teid n sdus fits (p ∷ ps) all i now run agrees =
-    let sent = packet_sent teid n 0 sdus (omega arith) p all.0 run.0 run.1 in
-    run_agrees teid n sdus fits ps all.1 (after i run.0) now run.2 (after_agrees sdus i run.0 sent agrees)
+-- what a packet of the tunnel carries is of the tunnel
+pub after_packet : (t : Tunnel) (i : Incoming) (p : Content) (load : Load) → length t.sdus < 2 ^ 24 → IsPacketOf t p → Carries p load → IsEndOf t i → IsEndOf t (after i load)
+after_packet t i p load fits of c end = after_sent t i load (packet_sent t p load fits of c) end
 
-nothing_agrees : (sdus : List Sdu) → Agrees sdus nothing_came
-nothing_agrees sdus = record {
+pub nothing_of : (t : Tunnel) → IsEndOf t nothing_came
+nothing_of t = record {
   each = λ number sdu is. absurd (cc (get-empty nat_cmp number, is));
   whole = λ total is. absurd (cc is);
 }
+
+-- ---- a tunnel that is given more
+
+slice_get-longer : {A : Type 0} (xs ys : List A) (k : ℕ) (x : A) → slice_get xs k ≡ Some x → slice_get (xs ++ ys) k ≡ Some x
+slice_get-longer [] ys k x is = absurd (cc is)
+slice_get-longer (y ∷ xs) ys zero x is = is
+slice_get-longer (y ∷ xs) ys (suc k) x is = slice_get-longer xs ys k x is
+
+kept_later : (t later : Tunnel) → IsLater t later → (k : ℕ) (s : Sdu) → slice_get t.sdus k ≡ Some s → slice_get later.sdus k ≡ Some s
+kept_later t later l k s is = ap (λ (xs : List Sdu). slice_get xs k) l.longer ∙ slice_get-longer t.sdus l.more k s is
+
+same_later : (t later : Tunnel) → IsLater t later → t.closed ≡ true → later.sdus ≡ t.sdus
+same_later t later l closed = l.longer ∙ (ap (λ (xs : List Sdu). t.sdus ++ xs) (l.last closed).1 ∙ append-nil t.sdus)
+
+pub packet_later : (t later : Tunnel) (p : Content) → IsLater t later → IsPacketOf t p → IsPacketOf later p
+packet_later t later p l (sdu_of teid n k s there is) = sdu_of teid n k s (kept_later t later l k s there) is
+packet_later t later p l (total_of teid closed is) =
+    let same = same_later t later l closed in
+    total_of teid (l.last closed).0 (subst (λ (xs : List Sdu). p ≡ total_packet teid (length xs)) (sym same) is)
+packet_later t later p l (marker_of teid closed is) = marker_of teid (l.last closed).0 is
+
+pub end_later : (t later : Tunnel) (i : Incoming) → IsLater t later → IsEndOf t i → IsEndOf later i
+end_later t later i l end = record {
+  each = λ k s is. kept_later t later l k s (end.each k s is);
+  whole = λ total is.
+      let was = end.whole total is in
+      ((l.last was.0).0, was.1 ∙ ap length (sym (same_later t later l was.0)));
+}
+
+-- ---- all of it
+
+run_of : (t : Tunnel) → length t.sdus < 2 ^ 24 → (came : List Content) → AllByRecursion (IsPacketOf t) came → (i now : Incoming) → Comes i came now → IsEndOf t i → IsEndOf t now
+run_of t fits [] all i now run end = subst (IsEndOf t) (sym run) end
+run_of t fits (p ∷ ps) all i now run end = run_of t fits ps all.1 (after i run.0) now run.2 (after_packet t i p run.0 fits all.0 run.1 end)
 
 found : {A : Type 0} (x o : Option A) → IsSome o → ((a : A) → o ≡ Some a → x ≡ Some a) → x ≡ o
 found x None some h = absurd cc
 found x (Some a) some h = h a refl
 
-pub keeps_the_list : KeepsTheList
-keeps_the_list teid n sdus fits came all now run done =
-    let agrees = run_agrees teid n sdus fits came (recursion_from_All (Contains (packets_from teid n 0 sdus)) came all) nothing_came now run (nothing_agrees sdus) in
-    let total : done.total ≡ length sdus = agrees.whole done.total done.known in
-    record {
-      total = done.total;
-      known = done.known;
-      front = record {
-        whole = sym total;
-        each = λ number less. found (slice_get sdus number) (get now.sdus number) (done.came number less) (agrees.each number);
-      };
-    }
+-- an end that is done has the list of the tunnel
+pub list_of : (t : Tunnel) (now : Incoming) → IsEndOf t now → IsDone now → IsListOf now t.sdus × (t.closed ≡ true)
+list_of t now end done =
+    let total = end.whole done.total done.known in (
+      record {
+        total = done.total;
+        known = done.known;
+        front = record {
+          whole = sym total.1;
+          each = λ number less. found (slice_get t.sdus number) (get now.sdus number) (done.came number less) (end.each number);
+        };
+      },
+      total.0,
+    )
 
 pub one_list : (now : Incoming) (a b : List Sdu) → IsListOf now a → IsListOf now b → a ≡ b
 one_list now a b p q =
@@ -91,6 +121,25 @@ one_list now a b p q =
     same_lists a b lengths (λ k d less.
     let places : slice_get a k ≡ slice_get b k = p.front.each k (omega (arith, p.front.whole)) ∙ sym (q.front.each k (omega (arith, q.front.whole))) in
     sym (unwrap_or-slice_get a k d) ∙ (ap (λ o. unwrap_or o d) places ∙ unwrap_or-slice_get b k d))
+
+within : {A : Type 0} (xs : List A) (k : ℕ) → k < length xs → IsSome (slice_get xs k)
+within [] k less = absurd (omega arith)
+within (x ∷ xs) zero less = refl
+within (x ∷ xs) (suc k) less = within xs k (omega arith)
+
+-- an end with a list is done
+done_of : (now : Incoming) (list : List Sdu) → IsListOf now list → IsDone now
+done_of now list is = record {
+  total = is.total;
+  known = is.known;
+  came = λ number less. ap is_some (sym (is.front.each number less)) ∙ within list number (omega (arith, is.front.whole));
+}
+
+pub list_sent : (now : Incoming) (list : List Sdu) → IsListOf now list → IsListSent now list
+list_sent now list is t fits came all run =
+    let end = run_of t fits came (recursion_from_All (IsPacketOf t) came all) nothing_came now run (nothing_of t) in
+    let whole = list_of t now end (done_of now list is) in
+    (one_list now list t.sdus is whole.0, whole.1)
 
 one_octets : (p : Content) (k m : ℕ) (u v : Bool) → HasNumber p k u → HasNumber p m v → (k ≡ m) × (u ≡ v)
 one_octets p k m u v a b =
@@ -113,3 +162,8 @@ one_load p (Total k) Nothing a b = absurd (b.1 k a.0 a.1 a.2)
 one_load p Nothing (Piece m t) a b = absurd (a.0 m b.0)
 one_load p Nothing (Total m) a b = absurd (a.1 m b.0 b.1 b.2)
 one_load p Nothing Nothing a b = refl
+
+-- whatever a call took in of a packet of the tunnel
+pub came_kept : (t : Tunnel) (p : Content) (old now : Incoming) (r : Result (Unit {0}) Memory) → length t.sdus < 2 ^ 24 → IsPacketOf t p → OnOk r ((load : Load) × Carries p load × (now ≡ after old load)) → OnErr r (now ≡ old) → IsEndOf t old → IsEndOf t now
+came_kept t p old now (Ok x) fits of is same end = subst (IsEndOf t) (sym is.2) (after_packet t old p is.0 fits of is.1 end)
+came_kept t p old now (Err e) fits of is same end = subst (IsEndOf t) (sym same) end

@@ -1,19 +1,23 @@
 -- What the packets of a tunnel carry.
-use Rattle.std.proofs.Common.{◌≡◌, ℕ, zero, suc, ◌+◌, ◌-◌, ◌^◌, ◌<◌, ◌≤◌, ◌⊎◌, inl, inr, Bool, true, false, List, [], ◌∷◌, length, Option, Some, None, refl, sym, ap, subst, ◌∙◌, arith}
-use Rattle.std.specs.Prelude.{Contains, slice_get}
+use Rattle.std.proofs.Common.{◌≡◌, ℕ, ◌+◌, ◌^◌, ◌<◌, Bool, true, false, List, [], ◌∷◌, ◌++◌, length, Option, Some, None, refl, sym, ap, subst, ◌∙◌, arith, length-append}
+use Rattle.std.specs.Prelude.{slice_get, Ok}
 use Rattle.std.specs.Option.{option_map}
+use Rattle.std.proofs.lemmas.Option.{slice_get_within}
 use Rattle.dc_base.specs.declared.numbers.SnLen.{SnLen}
 use Rattle.dc_base.specs.declared.numbers.SnLen.TheVariants.{S12, S18}
 use Rattle.gtpu.specs.Content.{Content}
+use Rattle.gtpu.specs.Decoded.{decoded}
 use Rattle.nr_u.specs.declared.frame.Frame.TheVariants.{User}
 use Rattle.nr_u.specs.Frames.{IsFrame, written}
 use Rattle.nr_u.proofs.Grammar.{one_frame}
 use Rattle.nr_u.proofs.Written.{written_is_frame}
 use Rattle.forward.specs.Load.{Sdu, Load, Piece, Total, Nothing, sn_of, HasNumber, Carries}
-use Rattle.forward.specs.Outgoing.{pdu_number, sdu_packet, total_packet, end_marker, packets_from}
+use Rattle.forward.specs.Outgoing.{pdu_number, sdu_packet, total_packet, end_marker}
+use Rattle.forward.specs.Tunnel.{Tunnel, IsPacketOf, sdu_of, total_of, marker_of, IsSentIn}
+use Rattle.forward.proofs.Numbers.{slice_get-last}
 
 -- a container with a frame that was written so has that frame's number
-pub one_number : (p : Content) (m k : ℕ) (u v : Bool) → m < 2 ^ 24 → p.container ≡ Some (written (User m u false)) → HasNumber p k v → (k ≡ m) × (v ≡ u)
+one_number : (p : Content) (m k : ℕ) (u v : Bool) → m < 2 ^ 24 → p.container ≡ Some (written (User m u false)) → HasNumber p k v → (k ≡ m) × (v ≡ u)
 one_number p m k u v fits is h =
     let octets : h.octets ≡ written (User m u false) = cc (is, h.has_container) in
     let same : User k v h.repeat ≡ User m u false = one_frame h.octets (User k v h.repeat) (User m u false) h.frame (subst (λ (o : List ℕ). IsFrame o (User m u false)) (sym octets) (written_is_frame (User m u false) fits)) in
@@ -24,59 +28,47 @@ sn-pdu_number n None = refl
 sn-pdu_number S12 (Some sn) = refl
 sn-pdu_number S18 (Some sn) = refl
 
--- what a tunnel with these SDUs from number m on carries
-abbrev pub IsSent : ℕ → List Sdu → Load → Type 0
-IsSent m sdus (Piece number sdu) = (m ≤ number) × (slice_get sdus (number - m) ≡ Some sdu)
-IsSent m sdus (Total total) = total ≡ m + length sdus
-IsSent m sdus Nothing = Unit {0}
+-- what a packet of the tunnel may carry: SDU k of the list under number k, and the number of all once it is closed
+abbrev pub IsSent : Tunnel → Load → Type 0
+IsSent t (Piece number sdu) = slice_get t.sdus number ≡ Some sdu
+IsSent t (Total total) = (t.closed ≡ true) × (total ≡ length t.sdus)
+IsSent t Nothing = Unit {0}
 
-total_sent : (teid m : ℕ) (load : Load) → m < 2 ^ 24 → Carries (total_packet teid m) load → IsSent m [] load
-total_sent teid m (Piece number sdu) fits c = absurd (cc ((one_number (total_packet teid m) m number false true fits refl c.0).1))
-total_sent teid m (Total total) fits c = omega (arith, (one_number (total_packet teid m) m total false false fits refl c.0).0)
-total_sent teid m Nothing fits c = tt
-
-marker_sent : (teid m : ℕ) (load : Load) → Carries (end_marker teid) load → IsSent m [] load
-marker_sent teid m (Piece number sdu) c = absurd (cc c.0.is_g_pdu)
-marker_sent teid m (Total total) c = absurd (cc c.0.is_g_pdu)
-marker_sent teid m Nothing c = tt
-
-sdu_sent : (teid : ℕ) (n : SnLen) (m : ℕ) (s : Sdu) (ss : List Sdu) (load : Load) → m < 2 ^ 24 → Carries (sdu_packet teid n m s) load → IsSent m (s ∷ ss) load
-sdu_sent teid n m s ss (Piece number sdu) fits c =
+sdu_sent : (t : Tunnel) (teid : ℕ) (n : SnLen) (m : ℕ) (s : Sdu) (load : Load) → m < 2 ^ 24 → slice_get t.sdus m ≡ Some s → Carries (sdu_packet teid n m s) load → IsSent t load
+sdu_sent t teid n m s (Piece number sdu) fits there c =
     let same : number ≡ m = (one_number (sdu_packet teid n m s) m number true true fits refl c.0).0 in
-    let here : number - m ≡ 0 = omega arith in
     let sn : sdu.0 ≡ s.0 = ap (λ (x : Sdu). x.0) c.1 ∙ sn-pdu_number n s.0 in
     let body : sdu.1 ≡ s.1 = ap (λ (x : Sdu). x.1) c.1 in
     let whole : s ≡ sdu = ap (λ (o : Option ℕ). let x : Sdu = (o, s.1) in x) (sym sn) ∙ ap (λ (o : List ℕ). let x : Sdu = (sdu.0, o) in x) (sym body) in
-    (omega arith, ap (slice_get (s ∷ ss)) here ∙ ap (λ (x : Sdu). Some x) whole)
-sdu_sent teid n m s ss (Total total) fits c = absurd (cc ((one_number (sdu_packet teid n m s) m total true false fits refl c.0).1))
-sdu_sent teid n m s ss Nothing fits c = tt
+    ap (slice_get t.sdus) same ∙ (there ∙ ap (λ (x : Sdu). Some x) whole)
+sdu_sent t teid n m s (Total total) fits there c = absurd (cc ((one_number (sdu_packet teid n m s) m total true false fits refl c.0).1))
+sdu_sent t teid n m s Nothing fits there c = tt
 
-sent_later : (m : ℕ) (s : Sdu) (ss : List Sdu) (load : Load) → IsSent (m + 1) ss load → IsSent m (s ∷ ss) load
-sent_later m s ss (Piece number sdu) h =
-    let next : number - m ≡ suc (number - (m + 1)) = omega (arith, h.0) in
-    (omega (arith, h.0), ap (slice_get (s ∷ ss)) next ∙ h.1)
-sent_later m s ss (Total total) h = omega (arith, h)
-sent_later m s ss Nothing h = tt
+total_sent : (t : Tunnel) (teid m : ℕ) (load : Load) → m < 2 ^ 24 → m ≡ length t.sdus → t.closed ≡ true → Carries (total_packet teid m) load → IsSent t load
+total_sent t teid m (Piece number sdu) fits all closed c = absurd (cc ((one_number (total_packet teid m) m number false true fits refl c.0).1))
+total_sent t teid m (Total total) fits all closed c = (closed, (one_number (total_packet teid m) m total false false fits refl c.0).0 ∙ all)
+total_sent t teid m Nothing fits all closed c = tt
 
-Contains-cases : {A : Type 0} (x : A) (xs : List A) (p : A) → Contains (x ∷ xs) p → (p ≡ x) ⊎ Contains xs p
-Contains-cases x xs p (zero, less, is) = inl (sym is)
-Contains-cases x xs p (suc k, less, is) = inr (k, omega arith, is)
-
-Contains-nil : {A : Type 0} (p : A) → Contains [] p → ⊥
-Contains-nil p (k, less, is) = omega arith
+marker_sent : (t : Tunnel) (teid : ℕ) (load : Load) → Carries (end_marker teid) load → IsSent t load
+marker_sent t teid (Piece number sdu) c = absurd (cc c.0.is_g_pdu)
+marker_sent t teid (Total total) c = absurd (cc c.0.is_g_pdu)
+marker_sent t teid Nothing c = tt
 
 -- a packet of the tunnel carries what was sent
-pub packet_sent : (teid : ℕ) (n : SnLen) (m : ℕ) (sdus : List Sdu) → m + length sdus < 2 ^ 24 → (p : Content) → Contains (packets_from teid n m sdus) p → (load : Load) → Carries p load → IsSent m sdus load
-packet_sent teid n m [] fits p within load c =
-    elim (Contains-cases (total_packet teid m) (end_marker teid ∷ []) p within) [
-      | inl is ↦ total_sent teid m load (omega arith) (subst (λ (q : Content). Carries q load) is c)
-      | inr later ↦ elim (Contains-cases (end_marker teid) [] p later) [
-        | inl is ↦ marker_sent teid m load (subst (λ (q : Content). Carries q load) is c)
-        | inr none ↦ absurd (Contains-nil p none)
-      ]
-    ]
-packet_sent teid n m (s ∷ ss) fits p within load c =
-    elim (Contains-cases (sdu_packet teid n m s) (packets_from teid n (m + 1) ss) p within) [
-      | inl is ↦ sdu_sent teid n m s ss load (omega arith) (subst (λ (q : Content). Carries q load) is c)
-      | inr later ↦ sent_later m s ss load (packet_sent teid n (m + 1) ss (omega arith) p later load c)
-    ]
+pub packet_sent : (t : Tunnel) (p : Content) (load : Load) → length t.sdus < 2 ^ 24 → IsPacketOf t p → Carries p load → IsSent t load
+packet_sent t p load fits (sdu_of teid n m s there is) c =
+    sdu_sent t teid n m s load (omega (arith, slice_get_within t.sdus m s there)) there (subst (λ (q : Content). Carries q load) is c)
+packet_sent t p load fits (total_of teid closed is) c = total_sent t teid (length t.sdus) load fits refl closed (subst (λ (q : Content). Carries q load) is c)
+packet_sent t p load fits (marker_of teid closed is) c = marker_sent t teid load (subst (λ (q : Content). Carries q load) is c)
+
+-- ---- what the sending end gives out
+
+pub sdu_sent_in : (teid : ℕ) (n : SnLen) (sdus : List Sdu) (s : Sdu) (number : ℕ) (octets : List ℕ) → decoded octets ≡ Ok (sdu_packet teid n number s) → length sdus ≡ number → IsSentIn (record { sdus = sdus ++ s ∷ []; closed = false }) octets
+sdu_sent_in teid n sdus s number octets read all =
+    (sdu_packet teid n number s, read, sdu_of teid n number s (ap (slice_get (sdus ++ s ∷ [])) (sym all) ∙ slice_get-last sdus s) refl)
+
+pub total_sent_in : (teid : ℕ) (sdus : List Sdu) (number : ℕ) (octets : List ℕ) → decoded octets ≡ Ok (total_packet teid number) → length sdus ≡ number → IsSentIn (record { sdus = sdus; closed = true }) octets
+total_sent_in teid sdus number octets read all = (total_packet teid number, read, total_of teid refl (ap (total_packet teid) (sym all)))
+
+pub marker_sent_in : (teid : ℕ) (sdus : List Sdu) (octets : List ℕ) → decoded octets ≡ Ok (end_marker teid) → IsSentIn (record { sdus = sdus; closed = true }) octets
+marker_sent_in teid sdus octets read = (end_marker teid, read, marker_of teid refl refl)

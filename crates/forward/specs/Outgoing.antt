@@ -1,5 +1,5 @@
 -- The packets that a forwarding tunnel is given.
-use Rattle.std.specs.Prelude.{◌≡◌, ℕ, ◌+◌, true, false, List, [], ◌∷◌, Some, None}
+use Rattle.std.specs.Prelude.{◌≡◌, ℕ, Bool, true, false, List, [], Some, None, Ok}
 use Rattle.std.specs.Option.{option_map}
 use Rattle.dc_base.specs.declared.numbers.SnLen.{SnLen}
 use Rattle.dc_base.specs.declared.numbers.SnLen.TheVariants.{S12, S18}
@@ -8,15 +8,17 @@ use Rattle.gtpu.specs.declared.packet.PduNumber.{PduNumber}
 use Rattle.gtpu.specs.declared.packet.PduNumber.TheVariants.{Short, Long}
 use Rattle.gtpu.specs.Content.{Content}
 use Rattle.gtpu.specs.Grammar.{IsPacket}
+use Rattle.gtpu.specs.Decoded.{decoded}
 use Rattle.gtpu.specs.Spelling.{spelling}
 use Rattle.nr_u.specs.declared.frame.Frame.TheVariants.{User}
 use Rattle.nr_u.specs.Frames.{written}
 use Rattle.forward.specs.Load.{Sdu}
 
--- the sending end: its TEID, and the forward number of the next SDU
+-- the sending end: its TEID, the forward number of the next SDU (as many were given before), and whether it is closed
 pub record Outgoing : Type 0 where
   pub teid : ℕ
   pub next : ℕ
+  pub closed : Bool
 
 -- an SN of 12 bits is a short number, one of 18 bits a long one
 abbrev pub pdu_number : SnLen → ℕ → PduNumber
@@ -43,12 +45,8 @@ total_packet teid total =
 abbrev pub end_marker : ℕ → Content
 end_marker teid = record { kind = EndMarker; teid = teid; container = None; number = None; body = [] }
 
--- the packets for these SDUs, the first of which has this number, and the two that close the tunnel
-abbrev pub packets_from : ℕ → SnLen → ℕ → List Sdu → List Content
-packets_from teid n number [] = total_packet teid number ∷ end_marker teid ∷ []
-packets_from teid n number (sdu ∷ sdus) = sdu_packet teid n number sdu ∷ packets_from teid n (number + 1) sdus
-
 -- the one spelling of a packet, which is read as that packet
 pub record IsWritten (p : Content) (octets : List ℕ) : Type 0 where
   pub spelled : octets ≡ spelling p
   pub reads : IsPacket p octets
+  pub decoded_is : decoded octets ≡ Ok p

@@ -1,12 +1,13 @@
-//! The receiving end of a tunnel.
+//! The receiving end of a tunnel. After `Memory` it is as before.
 
-ghost use Rattle.std.specs.Prelude.{◌≡◌, ℕ, Bool, ◌^◌, ◌<◌, ◌≤◌, ◌↔◌, ◌⊎◌, [], false, true, length, Some, None, IsSome, IsTrue, is_some, slice_get, IfOk, IfErr, OnOk, OnErr, MatchOption};
+ghost use Rattle.std.specs.Prelude.{◌≡◌, ℕ, Bool, ◌^◌, ◌<◌, ◌≤◌, ◌↔◌, ◌⊎◌, List, [], false, true, length, Some, None, IsSome, IsTrue, is_some, slice_get, IfOk, IfErr, OnOk, OnErr, MatchOption};
 ghost use Rattle.std.specs.Ordering.{nat_cmp};
 ghost use Rattle.std.specs.Option.{option_map};
 ghost use Rattle.std.specs.FinMap as map;
 ghost use Rattle.gtpu.specs.Content.{view};
-ghost use Rattle.forward.specs.Load.{Load, Piece, Total, Nothing, sn_of, HasNumber, Carries};
+ghost use Rattle.forward.specs.Load.{Sdu, Load, Piece, Total, Nothing, sn_of, HasNumber, Carries};
 ghost use Rattle.forward.specs.Incoming.{after, nothing_came, IsDone, IsListOf, IsFront, by_number, CameBelow, AreSmall, IsFirstMissing};
+ghost use Rattle.forward.specs.Tunnel.{Tunnel, IsPacketOf, IsEndOf, IsLater, IsListSent};
 
 use dc_base::{Memory, Octets, Seq};
 use gtpu::{GtpKind, Packet, PduNumber};
@@ -23,7 +24,9 @@ type Sdu = (Option<u32>, Octets);
 #[derive(Debug, Drop)]
 pub struct ForwardIn {
     alloc: Global,
+    /// The SDUs that came, by forward number.
     sdus: BTreeMap<u32, Sdu>,
+    /// The number of all SDUs, if it came.
     total: Option<u32>,
     /// The first number that did not come.
     missing: u32,
@@ -97,15 +100,13 @@ fn has(sdus: &BTreeMap<u32, Sdu>, number: u32) -> bool
     sdus.contains_key(&number)
 }
 
-/// Keeps an SDU. After `Memory` all is as before.
+/// Keeps an SDU.
 fn keep(sdus: &mut BTreeMap<u32, Sdu>, number: u32, sdu: Sdu) -> Result<(), Memory>
     ensures ok { OnOk result (by_number sdus.new.entries ≡ map.insert (by_number sdus.old.entries) number sdu) }
     ensures err { OnErr result (sdus.new.entries ≡ sdus.old.entries) }
 {
-    match sdus.insert(number, sdu) {
-        Ok(_) => Ok(()),
-        Err(_) => Err(Memory),
-    }
+    sdus.insert(number, sdu)?;
+    Ok(())
 }
 
 /// The first number from `from` on that did not come.
@@ -147,7 +148,8 @@ fn in_order(alloc: Global, sdus: BTreeMap<u32, Sdu>, total: u32) -> Result<Seq<S
 impl ForwardIn {
     /// An end to which nothing came. It takes memory from `alloc`.
     pub fn new(alloc: Global) -> ForwardIn
-        ensures { result ≡ nothing_came }
+        ensures nothing { result ≡ nothing_came }
+        ensures kept { (t : Tunnel) → IsEndOf t result }
     {
         ForwardIn {
             alloc,
@@ -181,9 +183,8 @@ impl ForwardIn {
         }
     }
 
-    /// Takes a packet of the tunnel. The first of each forward number counts, and the first total; any other
-    /// packet changes nothing. After `Memory` the end is as before.
-    pub fn came(&mut self, p: &Packet<'_>) -> Result<(), Memory>
+    /// Takes what a packet carries.
+    fn take_in(&mut self, p: &Packet<'_>) -> Result<(), Memory>
         ensures ok { OnOk result ((load : Load) × Carries (view p.now) load × (self.new ≡ after self.old load)) }
         ensures err { OnErr result (self.new ≡ self.old) }
     {
@@ -200,10 +201,25 @@ impl ForwardIn {
         Ok(())
     }
 
-    /// The SDUs in the order of their numbers. Where the end is not done, it is given back as it was.
-    pub fn into_list(self) -> Result<Seq<(Option<u32>, Octets)>, ListErr>
+    /// Takes a packet of the tunnel. The first of each forward number counts, and the first total; any other
+    /// packet changes nothing.
+    pub fn came(&mut self, p: &Packet<'_>) -> Result<(), Memory>
+        ensures ok { OnOk result ((load : Load) × Carries (view p.now) load × (self.new ≡ after self.old load)) }
+        // A packet carries one thing.
+        ensures only { (load : Load) → Carries (view p.now) load → OnOk result (self.new ≡ after self.old load) }
+        // An end that has nothing but what the tunnel was given so far takes nothing else from a packet of it.
+        ensures kept { (t : Tunnel) → length t.sdus < 2 ^ 24 → IsPacketOf t (view p.now) → IsEndOf t self.old → IsEndOf t self.new }
+        // Both last when the tunnel is given more.
+        ensures lasts { (t later : Tunnel) → IsLater t later → (IsPacketOf t (view p.now) → IsPacketOf later (view p.now)) × (IsEndOf t self.new → IsEndOf later self.new) }
+        ensures err { OnErr result (self.new ≡ self.old) }
+    {
+        self.take_in(p)
+    }
+
+    /// The list of an end that is done, or the end as it was.
+    fn list_if_done(self) -> Result<Seq<Sdu>, ListErr>
         ensures list { IfOk result (IsListOf self) }
-        ensures not_done { IfErr result (λ e. (e ≡ ListErr.Memory) ⊎ ((e ≡ ListErr.NotDone self) × ¬ IsDone self)) }
+        ensures err { IfErr result (λ e. ((e ≡ ListErr.Memory) × IsDone self) ⊎ ((e ≡ ListErr.NotDone self) × ¬ IsDone self)) }
     {
         let Some(total) = self.total else {
             return Err(ListErr::NotDone(self));
@@ -216,6 +232,20 @@ impl ForwardIn {
             Ok(list) => Ok(list),
             Err(Memory) => Err(ListErr::Memory),
         }
+    }
+
+    /// The SDUs in the order of their numbers. Where the end is not done, it is given back as it was, before any
+    /// memory is asked for.
+    pub fn into_list(self) -> Result<Seq<(Option<u32>, Octets)>, ListErr>
+        ensures list { IfOk result (IsListOf self) }
+        ensures only { (list : List Sdu) → IsListOf self list → IfOk result (λ made. made ≡ list) }
+        // An end that is done, and has nothing but what the tunnel was given, has all of it, in order.
+        ensures sent { (t : Tunnel) → IsEndOf t self → IsDone self → IsListOf self t.sdus × (t.closed ≡ true) }
+        // So the list is what was sent, whatever was lost, repeated or reordered on the way.
+        ensures whatever_came { IfOk result (IsListSent self) }
+        ensures err { IfErr result (λ e. ((e ≡ ListErr.Memory) × IsDone self) ⊎ ((e ≡ ListErr.NotDone self) × ¬ IsDone self)) }
+    {
+        self.list_if_done()
     }
 
     /// Whether the total and all SDUs below it came. It takes no memory, and the time of a comparison.

@@ -1,13 +1,12 @@
 //! Forwarding tunnels between an old anchor and a new one: SDUs are numbered from 0, so that a tunnel
 //! that loses, repeats or reorders packets cannot change the list (numbered forwarding is this product's own).
+//! A tunnel may be given more for as long as it is open: what its contracts say of the list so far lasts.
 #![tactic(auto)]
 
 mod incoming;
-mod law;
 mod outgoing;
 
 pub use incoming::{ForwardIn, ListErr};
-pub use law::the_list_is_kept;
 pub use outgoing::ForwardOut;
 
 #[cfg(test)]

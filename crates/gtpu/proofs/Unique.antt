@@ -16,7 +16,7 @@ use Rattle.gtpu.specs.declared.packet.PduNumber.TheVariants.{Short, Long}
 use Rattle.gtpu.specs.declared.packet.Packet.{Packet}
 use Rattle.gtpu.specs.Content.{Content, view, message_type, kind_of}
 use Rattle.gtpu.specs.Extension.{Extension, octets_of, is_unknown_required, IsExtension, container_of, short_number, long_number, number_of, containers, numbers, AreExtensions}
-use Rattle.gtpu.specs.Grammar.{IsAfterTeid, plain, numbered, extended, HasHeader, IsPacket}
+use Rattle.gtpu.specs.Grammar.{IsAfterTeid, plain, sequenced, extended, HasHeader, IsPacket}
 use Rattle.gtpu.specs.Fault.{header_fault, is_misshapen, is_second, extension_fault, HasExtensionFault, HasFault}
 
 -- two ways to cut a list at one place
@@ -204,13 +204,13 @@ record SameParts (c c' : Option (List ℕ)) (n n' : Option PduNumber) (b b' : Li
 
 one_reading : (flags : ℕ) (c c' : Option (List ℕ)) (n n' : Option PduNumber) (b b' octets : List ℕ) → IsAfterTeid flags c n b octets → IsAfterTeid flags c' n' b' octets → SameParts c c' n n' b b'
 one_reading flags c c' n n' b b' octets (plain f nc nn o) (plain f' nc' nn' o') = record { container = cc; number = cc; body = cc }
-one_reading flags c c' n n' b b' octets (plain f nc nn o) (numbered f' g' nc' nn' s' t' x' y' o') = absurd (omega arith)
+one_reading flags c c' n n' b b' octets (plain f nc nn o) (sequenced f' g' nc' nn' s' t' x' y' o') = absurd (omega arith)
 one_reading flags c c' n n' b b' octets (plain f nc nn o) (extended f' s' t' x' more' o' e') = absurd (omega arith)
-one_reading flags c c' n n' b b' octets (numbered f g nc nn s t x y o) (plain f' nc' nn' o') = absurd (omega arith)
-one_reading flags c c' n n' b b' octets (numbered f g nc nn s t x y o) (numbered f' g' nc' nn' s' t' x' y' o') = record { container = cc; number = cc; body = cc }
-one_reading flags c c' n n' b b' octets (numbered f g nc nn s t x y o) (extended f' s' t' x' more' o' e') = absurd (omega arith)
+one_reading flags c c' n n' b b' octets (sequenced f g nc nn s t x y o) (plain f' nc' nn' o') = absurd (omega arith)
+one_reading flags c c' n n' b b' octets (sequenced f g nc nn s t x y o) (sequenced f' g' nc' nn' s' t' x' y' o') = record { container = cc; number = cc; body = cc }
+one_reading flags c c' n n' b b' octets (sequenced f g nc nn s t x y o) (extended f' s' t' x' more' o' e') = absurd (omega arith)
 one_reading flags c c' n n' b b' octets (extended f s t x more o e) (plain f' nc' nn' o') = absurd (omega arith)
-one_reading flags c c' n n' b b' octets (extended f s t x more o e) (numbered f' g' nc' nn' s' t' x' y' o') = absurd (omega arith)
+one_reading flags c c' n n' b b' octets (extended f s t x more o e) (sequenced f' g' nc' nn' s' t' x' y' o') = absurd (omega arith)
 one_reading flags c c' n n' b b' octets (extended f s t x more o e) (extended f' s' t' x' more' o' e') =
     let same : more ≡ more' = cc in
     let both = agree more c c' n n' 0 0 b b' e (subst (λ (m : List ℕ). AreExtensions m c' n' (0 ∷ b')) (sym same) e') (inl refl) (inl refl) in
@@ -234,7 +234,7 @@ one_packet p q octets a b =
 -- the numbers that a flag announces are there
 numbers_there : (flags : ℕ) (c : Option (List ℕ)) (n : Option PduNumber) (b octets : List ℕ) → IsAfterTeid flags c n b octets → (flags ≡ 0) ⊎ (4 ≤ length octets)
 numbers_there flags c n b octets (plain f nc nn o) = inl f
-numbers_there flags c n b octets (numbered f g nc nn s t x y o) = inr (omega (arith, ap length o))
+numbers_there flags c n b octets (sequenced f g nc nn s t x y o) = inr (omega (arith, ap length o))
 numbers_there flags c n b octets (extended f s t x more o e) = inr (omega (arith, ap length o, ap length e.spelled, length-append (flat_map octets_of e.headers) (0 ∷ b)))
 
 sound_header : (octets : List ℕ) (first : ℕ) (kind : GtpKind) (teid : ℕ) (after : List ℕ) → HasHeader octets first kind teid after → (first % 8 ≡ 0) ⊎ (4 ≤ length after) → header_fault octets ≡ None
@@ -263,7 +263,7 @@ from_eleven octets first kind teid after h = ap (drop 11) h.spelled
 
 no_extension_fault : (octets : List ℕ) (e : GtpErr) (flags : ℕ) (c : Option (List ℕ)) (n : Option PduNumber) (b after : List ℕ) → drop 11 octets ≡ drop 3 after → 4 ≤ flags → IsAfterTeid flags c n b after → HasExtensionFault octets e → ⊥
 no_extension_fault octets e flags c n b after eleven four (plain f nc nn o) fault = omega arith
-no_extension_fault octets e flags c n b after eleven four (numbered f g nc nn s t x y o) fault = omega arith
+no_extension_fault octets e flags c n b after eleven four (sequenced f g nc nn s t x y o) fault = omega arith
 no_extension_fault octets e flags c n b after eleven four (extended f s t x more o are) fault =
     let from : drop 11 octets ≡ more = eleven ∙ ap (drop 3) o in
     let fine = subst (λ (m : List ℕ). AreExtensions m c n (0 ∷ b)) (sym from) are in

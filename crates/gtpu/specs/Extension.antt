@@ -1,4 +1,4 @@
--- Extension headers: TS 29.281, 5.2.1, and the types that are understood here.
+-- Extension headers: TS 29.281, 5.2.1, and the types that are understood here (5.2.2).
 use Rattle.std.specs.Prelude.{◌≡◌, ℕ, ◌+◌, ◌*◌, ◌%◌, ◌^◌, ◌<◌, Bool, true, false, not, ◌&&◌, ◌||◌, ◌==◌, nat_le, if◌then◌else◌, List, ◌∷◌, ◌++◌, length, Option, Some, None}
 use Rattle.std.specs.Option.{option_to_list}
 use Rattle.std.specs.List.{flat_map, filter_map, AllByRecursion}
@@ -15,7 +15,8 @@ pub record Extension : Type 0 where
 abbrev pub octets_of : Extension → List ℕ
 octets_of x = x.type ∷ x.units ∷ x.content
 
--- bit 7 of the type says that the header must be understood, and it is none of those that are
+-- The first bit of the type says that the header must be understood, and it is none of those that are. Whether
+-- that bit decides alone is this product's own.
 abbrev pub is_unknown_required : ℕ → Bool
 is_unknown_required type = nat_le 0x80 type && not (type == 0x84 || type == 0xC0 || type == 0x82)
 
@@ -30,16 +31,17 @@ pub record IsExtension (x : Extension) : Type 0 where
   pub whole : length x.content + 2 ≡ 4 * x.units
   pub prescribed : may_have_length x.type x.units ≡ true
 
--- an NR RAN container is its content
+-- an NR RAN container is its content (TS 29.281, 5.2.2.6)
 abbrev pub container_of : ℕ → List ℕ → Option (List ℕ)
 container_of type content = if type == 0x84 then Some content else None
 
--- two octets
+-- a PDCP PDU number of two octets (TS 29.281, 5.2.2.2)
 abbrev pub short_number : List ℕ → ℕ
 short_number (high ∷ low ∷ rest) = 256 * high + low
 short_number content = 0
 
--- three octets, of which the low 18 bits count; the others are spare
+-- a long PDCP PDU number, with the octets of TS 29.281, 5.2.2.2A: three, of which the low 18 bits count, and
+-- three that are spare
 abbrev pub long_number : List ℕ → ℕ
 long_number (high ∷ middle ∷ low ∷ rest) = (65536 * high + 256 * middle + low) % 2 ^ 18
 long_number content = 0

@@ -11,7 +11,7 @@ pub data IsAfterTeid (flags : ℕ) (container : Option (List ℕ)) (number : Opt
   -- without a flag, the body
   plain : flags ≡ 0 → container ≡ None → number ≡ None → octets ≡ body → IsAfterTeid flags container number body octets
   -- with S or PN alone a sequence number of two octets, an N-PDU number and a next type, all ignored
-  numbered : 0 < flags → flags < 4 → container ≡ None → number ≡ None → (s t n e : ℕ) → octets ≡ s ∷ t ∷ n ∷ e ∷ body → IsAfterTeid flags container number body octets
+  sequenced : 0 < flags → flags < 4 → container ≡ None → number ≡ None → (s t n e : ℕ) → octets ≡ s ∷ t ∷ n ∷ e ∷ body → IsAfterTeid flags container number body octets
   -- with E the same numbers, and extension headers up to a next type of 0
   extended : 4 ≤ flags → (s t n : ℕ) (more : List ℕ) → octets ≡ s ∷ t ∷ n ∷ more → AreExtensions more container number (0 ∷ body) → IsAfterTeid flags container number body octets
 

@@ -3,5 +3,6 @@ pub mod Content
 pub mod Extension
 pub mod Grammar
 pub mod Fault
-pub mod Walk
+pub mod Decoded
 pub mod Spelling
+pub mod Walk

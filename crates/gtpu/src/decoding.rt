@@ -5,12 +5,13 @@ ghost use Rattle.std.specs.Option.{option_copied};
 ghost use Rattle.gtpu.specs.Content.{Content, view, kind_of};
 ghost use Rattle.gtpu.specs.Grammar.{HasHeader, IsAfterTeid, IsPacket};
 ghost use Rattle.gtpu.specs.Fault.{header_fault, HasExtensionFault, HasFault};
+ghost use Rattle.gtpu.specs.Decoded.{outcome, decoded};
 
-use crate::extensions::{self, Said};
+use crate::extensions::{self, Understood};
 use crate::faults::GtpErr;
 use crate::packet::{GtpKind, Packet};
 
-/// The message type that an octet names.
+/// The message type that an octet names (TS 29.281, 6.1).
 fn kind_of(octet: u8) -> Option<GtpKind>
     ensures { result ≡ kind_of octet }
 {
@@ -24,7 +25,8 @@ fn kind_of(octet: u8) -> Option<GtpKind>
     }
 }
 
-/// The first octet, the message type and the TEID.
+/// The first octet, the message type and the TEID (TS 29.281, 5.1), behind the checks of the header in their order:
+/// short, version, kind, length, and short again where a flag announces octets 8 to 11.
 fn header(input: &[u8]) -> Result<(u8, GtpKind, u32), GtpErr>
     ensures { MatchResult result
         (λ h. HasHeader input.now h.0 h.1 h.2 (drop 8 input.now) × (header_fault input.now ≡ None))
@@ -60,15 +62,15 @@ fn header(input: &[u8]) -> Result<(u8, GtpKind, u32), GtpErr>
     Ok((*first, kind, teid))
 }
 
-/// What the extension headers say, if there are any, and the body.
-fn after_teid(flags: u8, input: &[u8]) -> Result<(Said<'_>, &[u8]), GtpErr>
+/// What the extension headers carry, if there are any, and the body. Sequence and N-PDU numbers are ignored.
+fn after_teid(flags: u8, input: &[u8]) -> Result<(Understood<'_>, &[u8]), GtpErr>
     requires header { 8 ≤ length input.now }
     requires numbers { 0 < flags → 12 ≤ length input.now }
     ensures { MatchResult result
         (λ x. IsAfterTeid flags (option_copied x.0.container) x.0.number x.1.now (drop 8 input.now))
         (λ e. (4 ≤ flags) × HasExtensionFault input.now e) }
 {
-    let nothing = Said {
+    let nothing = Understood {
         container: None,
         number: None,
     };
@@ -79,24 +81,25 @@ fn after_teid(flags: u8, input: &[u8]) -> Result<(Said<'_>, &[u8]), GtpErr>
     }
 }
 
+/// The packet, or the first check that fails.
 fn packet(input: &[u8]) -> Result<Packet<'_>, GtpErr>
     ensures { MatchResult result (λ p. IsPacket (view p) input.now) (λ e. HasFault input.now e) }
 {
     let (first, kind, teid) = header(input)?;
-    let (said, body) = after_teid(first % 8, input)?;
+    let (known, body) = after_teid(first % 8, input)?;
     Ok(Packet {
         kind,
         teid,
-        container: said.container,
-        number: said.number,
+        container: known.container,
+        number: known.number,
         body,
     })
 }
 
 /// The packet that the octets are (TS 29.281, 5.1 and 5.2). It takes no memory.
 ///
-/// The parts are lent out of the octets. Sequence and N-PDU numbers are ignored. Extension headers of an
-/// unknown type are skipped where bit 7 of the type is 0.
+/// The parts are lent out of the octets. The spare bit, sequence and N-PDU numbers are ignored. Extension headers
+/// of an unknown type are skipped where bit 7 of the type is 0, and refused where it is 1.
 pub fn decode(input: &[u8]) -> Result<Packet<'_>, GtpErr>
     // What is read is a packet that says this, and no other packet is spelled so.
     ensures ok { IfOk result (λ p. IsPacket (view p) input.now) }
@@ -104,6 +107,8 @@ pub fn decode(input: &[u8]) -> Result<Packet<'_>, GtpErr>
     // An error is the first check that fails, and where a check fails there is an error.
     ensures fault { IfErr result (λ e. HasFault input.now e) }
     ensures first { (e : GtpErr) → HasFault input.now e → IsErrOf result e }
+    // Both as one function of the octets, by which definitions read packets.
+    ensures read { outcome result ≡ decoded input.now }
 {
     packet(input)
 }

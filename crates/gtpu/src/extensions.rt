@@ -1,4 +1,4 @@
-//! The extension headers of a packet (TS 29.281, 5.2.1).
+//! The extension headers of a packet (TS 29.281, 5.2.1 and 5.2.2).
 
 ghost use Rattle.std.specs.Prelude.{◌≡◌, ◌<◌, ◌≤◌, false, true, ◌||◌, ◌∷◌, length, drop, MatchOption, MatchResult};
 ghost use Rattle.std.specs.Option.{option_copied};
@@ -9,28 +9,30 @@ ghost use Rattle.gtpu.specs.Walk.{Splits, Joins, Extends};
 use crate::faults::GtpErr;
 use crate::packet::PduNumber;
 
-/// An NR RAN container.
+/// The type of an NR RAN container (TS 29.281, 5.2.2.6).
 pub const CONTAINER: u8 = 0x84;
-/// A PDCP PDU number of 16 bits.
+/// The type of a PDCP PDU number of 16 bits (TS 29.281, 5.2.2.2).
 pub const NUMBER: u8 = 0xC0;
-/// A PDCP PDU number of 18 bits.
+/// The type of a long PDCP PDU number, of 18 bits (TS 29.281, 5.2.2.2A).
 pub const LONG_NUMBER: u8 = 0x82;
 
-/// What the extension headers say.
+/// What the extension headers that are understood carry, at most one of each.
 #[derive(Clone, Copy)]
-pub struct Said<'a> {
+pub struct Understood<'a> {
+    /// The content of the NR RAN container.
     pub container: Option<&'a [u8]>,
+    /// The PDCP PDU number, of either type.
     pub number: Option<PduNumber>,
 }
 
-/// Whether a header of this type must be understood and is not.
+/// Whether a header of this type must be understood and is not: bit 7 of the type is set, and it is none of the three.
 fn is_unknown_required(kind: u8) -> bool
     ensures { result ≡ is_unknown_required kind }
 {
     kind >= 0x80 && !(kind == CONTAINER || kind == NUMBER || kind == LONG_NUMBER)
 }
 
-/// Whether a header of this type may have this length.
+/// Whether a header of this type may have this length, in units of 4 octets.
 fn may_have_length(kind: u8, units: u8) -> bool
     ensures { result ≡ may_have_length kind units }
 {
@@ -41,7 +43,8 @@ fn may_have_length(kind: u8, units: u8) -> bool
     }
 }
 
-/// The content of the header whose length octet comes first, and what follows it, from the next type on.
+/// The content of the header whose length octet comes first, and what follows it, from the next type on. None
+/// where the length octet is missing, 0 or none that the type may have, or the header ends past the packet.
 fn split(kind: u8, after: &[u8]) -> Option<(&[u8], &[u8])>
     ensures { MatchOption result (is_misshapen kind after.now ≡ true) (λ parts. Splits kind after.now parts.0.now parts.1.now) }
 {
@@ -57,6 +60,7 @@ fn split(kind: u8, after: &[u8]) -> Option<(&[u8], &[u8])>
     Some(after.split_at(end))
 }
 
+/// The number in the first two octets.
 fn short_number(content: &[u8]) -> u16
     ensures { result ≡ short_number content.now }
 {
@@ -66,6 +70,7 @@ fn short_number(content: &[u8]) -> u16
     }
 }
 
+/// The number in the low 18 bits of the first three octets.
 fn long_number(content: &[u8]) -> u32
     ensures { result ≡ long_number content.now }
 {
@@ -86,17 +91,17 @@ fn number_of(kind: u8, content: &[u8]) -> Option<PduNumber>
     }
 }
 
-impl<'a> Said<'a> {
-    /// What is said with one more header, unless it is a second of its kind.
-    fn with(self, kind: u8, content: &'a [u8]) -> Option<Said<'a>>
+impl<'a> Understood<'a> {
+    /// The same with one more header, unless it is a second container or number.
+    fn with(self, kind: u8, content: &'a [u8]) -> Option<Understood<'a>>
         ensures { MatchOption result (is_second (option_copied self.entry.container) self.entry.number kind ≡ true)
-            (λ said. Joins kind content.entry.now (option_copied self.entry.container) self.entry.number (option_copied said.container) said.number) }
+            (λ known. Joins kind content.entry.now (option_copied self.entry.container) self.entry.number (option_copied known.container) known.number) }
     {
         if kind == CONTAINER {
             if self.container.is_some() {
                 return None;
             }
-            return Some(Said {
+            return Some(Understood {
                 container: Some(content),
                 number: self.number,
             });
@@ -107,34 +112,35 @@ impl<'a> Said<'a> {
         if self.number.is_some() {
             return None;
         }
-        Some(Said {
+        Some(Understood {
             container: self.container,
             number: Some(number),
         })
     }
 }
 
-/// What is said with the header of this type, and what follows it, unless it has a fault.
-fn step<'a>(said: Said<'a>, kind: u8, after: &'a [u8]) -> Option<(Said<'a>, &'a [u8])>
+/// The same with the header of this type that stands here, and what follows it, unless it has a fault.
+fn step<'a>(known: Understood<'a>, kind: u8, after: &'a [u8]) -> Option<(Understood<'a>, &'a [u8])>
     requires some { 0 < kind }
     requires understood { is_unknown_required kind ≡ false }
     ensures { MatchOption result
-        (is_misshapen kind after.entry.now || is_second (option_copied said.entry.container) said.entry.number kind ≡ true)
-        (λ next. Extends kind after.entry.now (option_copied said.entry.container) said.entry.number (option_copied next.0.container) next.0.number next.1.now) }
+        (is_misshapen kind after.entry.now || is_second (option_copied known.entry.container) known.entry.number kind ≡ true)
+        (λ next. Extends kind after.entry.now (option_copied known.entry.container) known.entry.number (option_copied next.0.container) next.0.number next.1.now) }
 {
     let (content, rest) = split(kind, after)?;
-    let said = said.with(kind, content)?;
-    Some((said, rest))
+    let known = known.with(kind, content)?;
+    Some((known, rest))
 }
 
-/// Reads the extension headers up to a next type of 0, and the body behind it.
-pub fn read(input: &[u8]) -> Result<(Said<'_>, &[u8]), GtpErr>
+/// Reads the extension headers up to a next type of 0, and the body behind it. It refuses the first header with
+/// a fault: an unknown type that must be understood before a wrong length or a second of a kind.
+pub fn read(input: &[u8]) -> Result<(Understood<'_>, &[u8]), GtpErr>
     requires { 12 ≤ length input.now }
     ensures { MatchResult result
         (λ x. AreExtensions (drop 11 input.now) (option_copied x.0.container) x.0.number (0 ∷ x.1.now))
         (λ e. HasExtensionFault input.now e) }
 {
-    let mut said = Said {
+    let mut known = Understood {
         container: None,
         number: None,
     };
@@ -143,16 +149,16 @@ pub fn read(input: &[u8]) -> Result<(Said<'_>, &[u8]), GtpErr>
         let kind = rest[0];
         let after = &rest[1..];
         if kind == 0 {
-            return Ok((said, after));
+            return Ok((known, after));
         }
         let place = input.len() - rest.len();
         if is_unknown_required(kind) {
             return Err(GtpErr::UnknownRequired { place });
         }
-        let Some((more, next)) = step(said, kind, after) else {
+        let Some((more, next)) = step(known, kind, after) else {
             return Err(GtpErr::Extension { place: place + 1 });
         };
-        said = more;
+        known = more;
         rest = next;
     }
 }

@@ -7,9 +7,9 @@ pub enum GtpKind {
     GPdu,
     /// 254: no user data follows in the tunnel.
     EndMarker,
-    /// 1.
+    /// 1: asks whether the peer is alive.
     EchoRequest,
-    /// 2.
+    /// 2: the answer to an Echo Request.
     EchoResponse,
     /// 26: the tunnel is unknown to the receiver.
     ErrorIndication,
@@ -18,9 +18,9 @@ pub enum GtpKind {
 /// A PDCP PDU number, as an extension header of a G-PDU carries it.
 #[derive(Clone, Copy, Debug, PartialEq, Eq)]
 pub enum PduNumber {
-    /// In an extension header of type C0.
+    /// 16 bits, in an extension header of type C0 (TS 29.281, 5.2.2.2).
     Short(u16),
-    /// In an extension header of type 82: below 2^18.
+    /// Below 2^18, in an extension header of type 82, the long PDCP PDU number (TS 29.281, 5.2.2.2A).
     Long(u32),
 }
 
@@ -29,9 +29,9 @@ pub enum PduNumber {
 pub struct Packet<'a> {
     /// The message type.
     pub kind: GtpKind,
-    /// The tunnel endpoint identifier.
+    /// The tunnel endpoint identifier (TS 29.281, 5.1).
     pub teid: u32,
-    /// The content of the NR RAN container, an extension header of type 84.
+    /// The content of the NR RAN container, an extension header of type 84 (TS 29.281, 5.2.2.6): 4k - 2 octets.
     pub container: Option<&'a [u8]>,
     /// The PDCP PDU number, in an extension header of either type.
     pub number: Option<PduNumber>,

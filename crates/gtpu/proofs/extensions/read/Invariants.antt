@@ -7,7 +7,7 @@ use Rattle.gtpu.proofs.extensions.read.Given as goal
 abbrev pub invariant-loop-rest : goal.invariant-loop-rest
 invariant-loop-rest l =
     record {
-      before : AreExtensions (drop 11 l.input) (option_copied l.said.container) l.said.number l.rest;
+      before : AreExtensions (drop 11 l.input) (option_copied l.known.container) l.known.number l.rest;
       more : 0 < length l.rest;
       within : length l.rest + 11 ≤ length l.input;
     }

@@ -1,24 +1,16 @@
-use Rattle.std.proofs.Common.{ℕ, Option, refl, ap}
+use Rattle.std.proofs.Common.{ap, ◌∙◌}
 use Rattle.std.proofs.lemmas.Result.{on_ok_weaker}
-use Rattle.forward.specs.Load.{Sdu, Piece, Total, Nothing}
-use Rattle.forward.proofs.Arrivals.{without_number}
+use Rattle.gtpu.specs.Content.{view}
+use Rattle.forward.specs.Incoming.{after}
+use Rattle.forward.proofs.Arrivals.{one_load, came_kept, packet_later, end_later}
 use Rattle.forward.proofs.incoming.ForwardIn.came.Goals as goal
 
-pub returns-in_default-clause-ok : goal.returns-in_default-clause-ok
-returns-in_default-clause-ok c =
-    let found = c.in_ok-number.ensures in
-    (Nothing, without_number _ (rw c.in_default.is at found), refl)
+pub returns-clause-only : goal.returns-clause-only
+returns-clause-only c load carries =
+    on_ok_weaker c.take_in.result (λ is. is.2 ∙ ap (after c.args.self.now) (one_load (view c.args.p.now) is.0 load is.1 carries)) c.take_in.ensures.ok
 
-pub returns-then-user-clause-ok : goal.returns-then-user-clause-ok
-returns-then-user-clause-ok c =
-    let found = c.in_ok-number.ensures in
-    let has = rw c.in-Some.is at found in
-    let sdu : Option ℕ → Sdu = λ sn. (sn, c.args.p.now.body.now) in
-    on_ok_weaker c.take.result (λ is. (Piece c.in-Some.number (sdu c.sn_in.result), (rw c.if-user.true at has.0, ap sdu c.sn_in.ensures), is)) c.take.ensures.ok
+pub returns-clause-kept : goal.returns-clause-kept
+returns-clause-kept c t fits of end = came_kept t (view c.args.p.now) c.args.self.now c.take_in.new.self c.take_in.result fits of c.take_in.ensures.ok c.take_in.ensures.err end
 
-pub returns-clause-ok : goal.returns-clause-ok
-returns-clause-ok c =
-    let found = c.in_ok-number.ensures in
-    let has = rw c.in-Some.is at found in
-    let bare = c.is_bare.ensures.bare c.if-not-is_bare.false in
-    (Total c.in-Some.number, (rw c.if-user.false at has.0, bare.0, bare.1), c.end_at.ensures)
+pub returns-clause-lasts : goal.returns-clause-lasts
+returns-clause-lasts c t later l = (packet_later t later (view c.args.p.now) l, end_later t later c.take_in.new.self l)
