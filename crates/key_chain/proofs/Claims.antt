@@ -3,11 +3,12 @@ use Rattle.std.proofs.Common.{◌≡◌, ℕ, ◌==◌, Bool, true, false, not, 
 use Rattle.std.specs.List.{list_any}
 use Rattle.std.specs.Map.{lookup}
 use Rattle.std.proofs.lemmas.Bool.Decides.{nat_tests}
+use Rattle.dc_base.specs.Nodes.{is_same_key, is_same_side}
 use Rattle.dc_base.specs.declared.nodes.KeyName.{KeyName}
 use Rattle.dc_base.specs.declared.nodes.Side.{Side}
 use Rattle.dc_base.specs.declared.nodes.Side.TheVariants.{Master, Second}
 use Rattle.key_chain.specs.declared.key_book.KeyOfId.{KeyOfId}
-use Rattle.key_chain.specs.Book.{Claim, HasOneClaimant, is_claimed, is_for, is_same_key, is_same_side, is_spent}
+use Rattle.key_chain.specs.Book.{Claim, HasOneClaimant, is_claimed, is_for, is_spent}
 use Rattle.key_chain.specs.BookOfMaps.{claim_of, claims_of}
 use Rattle.dc_base.specs.contracts.nodes.SidePartialEq.TheImpl as sides
 use Rattle.key_chain.specs.contracts.key_book.KeyOfIdPartialEq.TheImpl as block

@@ -4,6 +4,7 @@ use Rattle.std.specs.List.{list_any}
 use Rattle.std.specs.Str.{bytes_eq}
 use Rattle.dc_base.specs.declared.nodes.KeyName.{KeyName}
 use Rattle.dc_base.specs.declared.nodes.Side.{Side}
+use Rattle.dc_base.specs.Nodes.{is_same_key}
 use Rattle.dc_base.specs.declared.nodes.Side.TheVariants.{Master, Second}
 
 -- a claim: this establishment of this bearer identity uses this key. An establishment is named by the generation
@@ -49,17 +50,6 @@ is_noted roots root = list_any (bytes_eq root) roots
 -- one more root is noted, and none of its counters is drawn
 abbrev pub noting : Book → List ℕ → Book
 noting book root = record book { roots = book.roots ++ root ∷ []; drawn = book.drawn ++ 0 ∷ [] }
-
--- both sides are the master's, or both are K_SN with the same SN Counter
-abbrev pub is_same_side : Side → Side → Bool
-is_same_side Master Master = true
-is_same_side Master (Second d) = false
-is_same_side (Second c) Master = false
-is_same_side (Second c) (Second d) = c == d
-
--- both names are of one key: the same root by its number, and the same side
-abbrev pub is_same_key : KeyName → KeyName → Bool
-is_same_key a b = (a.root == b.root) && is_same_side a.side b.side
 
 -- the claim is of this identity and for this key
 abbrev pub is_for : ℕ → KeyName → Claim → Bool

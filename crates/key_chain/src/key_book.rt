@@ -51,6 +51,7 @@ struct KeyOfId {
 pub struct KeyBook {
     /// The octets of each root, with how many of its SN Counters were drawn, 0 to 65,536.
     roots: IndexMap<[u8; 32], u32>,
+    /// The number of the current root.
     current: u32,
     /// The establishment that claimed a key for a bearer identity, in the order of the claims.
     claims: IndexMap<KeyOfId, Gen>,
@@ -149,8 +150,7 @@ impl KeyBook {
         ensures free { result ≡ not (is_spent self.now.claims id est key.now) }
         ensures one { HasOneClaimant self.now.claims }
     {
-        let what = KeyOfId { id, key: *key };
-        match self.claims.get(&what) {
+        match self.claims.get(&KeyOfId { id, key: *key }) {
             Some(claimant) => *claimant == est,
             None => true,
         }

@@ -67,7 +67,8 @@ returns-in_ok-insert-in-None-clause-one c =
 pub invariant_of-self-in-None : goal.invariant_of-self-in-None
 invariant_of-self-in-None c =
     let what : KeyOfId = record { id = c.args.id; key = c.args.key.now } in
-    let entries = c.in_ok-insert-in-None.ensures.entries ∙ insert_entry-new is_equal c.self.inside.claims what c.args.est (sym c.in-None.ensures.value) in
-    (c.self.invariant.0,
-    subst (λ (es : List (KeyOfId × ℕ)). HasOneClaimant (claims_of es)) (sym entries)
-    (HasOneClaimant-new what c.args.est c.self.inside.claims.entries c.self.invariant.1 (sym c.in-None.ensures.value)))
+    let entries = c.in_ok-insert-in-None.ensures.entries ∙ insert_entry-new is_equal c.self.inside.claims what c.args.est (sym c.in-None.ensures.value) in (
+      c.self.invariant.0,
+      subst (λ (es : List (KeyOfId × ℕ)). HasOneClaimant (claims_of es)) (sym entries)
+          (HasOneClaimant-new what c.args.est c.self.inside.claims.entries c.self.invariant.1 (sym c.in-None.ensures.value)),
+    )
