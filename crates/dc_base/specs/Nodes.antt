@@ -1,13 +1,16 @@
--- Nodes, directions and shapes (TS 37.340, clauses 3.1 and 4.2).
+-- Nodes, directions, shapes (TS 37.340, clauses 3.1 and 4.2) and names of keys.
 use Rattle.std.specs.Prelude.{ℕ, ◌==◌, ◌&&◌, Bool, true, false, not}
 use Rattle.dc_base.specs.declared.nodes.Node.{Node}
 use Rattle.dc_base.specs.declared.nodes.Node.TheVariants.{T, M, A, B}
 use Rattle.dc_base.specs.declared.nodes.Dir.{Dir}
 use Rattle.dc_base.specs.declared.nodes.Dir.TheVariants.{Ul, Dl}
 use Rattle.dc_base.specs.declared.nodes.Cell.{Cell}
+use Rattle.dc_base.specs.declared.nodes.KeyName.{KeyName}
 use Rattle.dc_base.specs.declared.nodes.LegSet.{LegSet}
 use Rattle.dc_base.specs.declared.nodes.LegSet.TheVariants.{Mcg, Scg, Split}
 use Rattle.dc_base.specs.declared.nodes.Shape.{Shape}
+use Rattle.dc_base.specs.declared.nodes.Side.{Side}
+use Rattle.dc_base.specs.declared.nodes.Side.TheVariants.{Master, Second}
 
 -- nodes are told apart by numbers
 abbrev pub node_number : Node → ℕ
@@ -37,6 +40,17 @@ is_same_dir _ _ = false
 abbrev pub opposite : Dir → Dir
 opposite Ul = Dl
 opposite Dl = Ul
+
+-- both are the master's, or both are K_SN of the same SN Counter
+abbrev pub is_same_side : Side → Side → Bool
+is_same_side Master Master = true
+is_same_side Master (Second d) = false
+is_same_side (Second c) Master = false
+is_same_side (Second c) (Second d) = c == d
+
+-- both names are of one key: the same root by its number, and the same side
+abbrev pub is_same_key : KeyName → KeyName → Bool
+is_same_key a b = (a.root == b.root) && is_same_side a.side b.side
 
 -- whether the master's cell group has the only leg
 abbrev pub is_mcg : LegSet → Bool

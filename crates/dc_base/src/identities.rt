@@ -9,7 +9,7 @@ use std::marker::Model;
 pub type Gen = u32;
 
 /// A data radio bearer identity, 1 to 32 (TS 38.331, DRB-Identity). Contracts see the number.
-#[derive(Clone, Copy, Debug, PartialEq, Eq, PartialOrd, Ord)]
+#[derive(Clone, Copy, Debug, PartialEq, Eq, PartialOrd, Ord, Hash)]
 pub struct DrbId {
     number: u8,
 }

@@ -43,7 +43,7 @@ pub enum LegSet {
 }
 
 /// Whose key it is: the master's, or K_SN of an SN Counter (TS 33.501, 6.10.3).
-#[derive(Clone, Copy, Debug, PartialEq, Eq, PartialOrd, Ord)]
+#[derive(Clone, Copy, Debug, PartialEq, Eq, PartialOrd, Ord, Hash)]
 pub enum Side {
     Master,
     Second(u16),
@@ -78,7 +78,7 @@ pub struct Shape {
 }
 
 /// The name of a key.
-#[derive(Clone, Copy, Debug, PartialEq, Eq, PartialOrd, Ord)]
+#[derive(Clone, Copy, Debug, PartialEq, Eq, PartialOrd, Ord, Hash)]
 pub struct KeyName {
     /// The number of the root key, from 0.
     pub root: u32,

@@ -6,14 +6,14 @@ use Rattle.dc_base.specs.declared.nodes.Alg.{Alg}
 use Rattle.key_chain.specs.Hmac.{hmac}
 use Rattle.key_chain.specs.Derived.{algorithm_identity, k_upenc}
 
--- an authentication code has 32 octets
+-- a MAC has 32 octets
 pub length-hmac : (key text : List ℕ) → length (hmac key text) ≡ 32
 length-hmac key text = length-sha256 _
 
--- 16 octets from the 16th on are all that are left of a code
-pub second_half : (code key : List ℕ) (number : ℕ) (alg : Alg) → number ≡ algorithm_identity alg
-    → code ≡ hmac key (0x69 ∷ 0x05 ∷ 0 ∷ 1 ∷ number ∷ 0 ∷ 1 ∷ []) → take 16 (drop 16 code) ≡ k_upenc key alg
-second_half code key number alg is e =
-    let whole : length code ≡ 32 = rw e (length-hmac key _) in
-    let left : length (drop 16 code) ≤ 16 = omega (arith, length-drop 16 code) in
-    take_all 16 (drop 16 code) left ∙ rw (e, is) (λ _. k_upenc key alg)
+-- 16 octets from the 16th on are all that are left of a MAC
+pub second_half : (mac key : List ℕ) (number : ℕ) (alg : Alg) → number ≡ algorithm_identity alg
+    → mac ≡ hmac key (0x69 ∷ 0x05 ∷ 0 ∷ 1 ∷ number ∷ 0 ∷ 1 ∷ []) → take 16 (drop 16 mac) ≡ k_upenc key alg
+second_half mac key number alg is e =
+    let whole : length mac ≡ 32 = rw e (length-hmac key _) in
+    let left : length (drop 16 mac) ≤ 16 = omega (arith, length-drop 16 mac) in
+    take_all 16 (drop 16 mac) left ∙ rw (e, is) (λ _. k_upenc key alg)

@@ -1,3 +1,5 @@
 mod Masking
 mod Halves
-mod Counters
+mod Roots
+mod Claims
+mod Books

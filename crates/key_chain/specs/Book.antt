@@ -1,11 +1,18 @@
 -- The book of keys as plain lists.
-use Rattle.std.specs.Prelude.{◌==◌, ℕ, ◌+◌, ◌<◌, Bool, true, false, ◌&&◌, not, List, [], ◌∷◌, ◌++◌, slice_index, slice_set, if◌then◌else◌}
+use Rattle.std.specs.Prelude.{◌==◌, ℕ, ◌+◌, ◌<◌, Bool, true, false, ◌&&◌, not, IsTrue, List, [], ◌∷◌, ◌++◌, slice_index, slice_set, if◌then◌else◌}
 use Rattle.std.specs.List.{list_any}
 use Rattle.std.specs.Str.{bytes_eq}
 use Rattle.dc_base.specs.declared.nodes.KeyName.{KeyName}
 use Rattle.dc_base.specs.declared.nodes.Side.{Side}
+use Rattle.dc_base.specs.Nodes.{is_same_key}
 use Rattle.dc_base.specs.declared.nodes.Side.TheVariants.{Master, Second}
-use Rattle.key_chain.specs.declared.key_book.Claim.{Claim}
+
+-- a claim: this establishment of this bearer identity uses this key. An establishment is named by the generation
+-- in which the bearer was set up.
+pub record Claim : Type 0 where
+  pub id : ℕ
+  pub key : KeyName
+  pub est : ℕ
 
 -- the roots in the order noted, how many SN Counters of each were drawn, the number of the current root,
 -- and the claims in the order made
@@ -38,26 +45,15 @@ with_next_drawn book = record book { drawn = slice_set book.drawn book.current (
 
 -- one of the roots has these octets
 abbrev pub is_noted : List (List ℕ) → List ℕ → Bool
-is_noted roots root = list_any (λ noted. bytes_eq noted root) roots
+is_noted roots root = list_any (bytes_eq root) roots
 
 -- one more root is noted, and none of its counters is drawn
 abbrev pub noting : Book → List ℕ → Book
 noting book root = record book { roots = book.roots ++ root ∷ []; drawn = book.drawn ++ 0 ∷ [] }
 
--- both sides are the master's, or both are K_SN with the same SN Counter
-abbrev pub is_same_side : Side → Side → Bool
-is_same_side Master Master = true
-is_same_side Master (Second d) = false
-is_same_side (Second c) Master = false
-is_same_side (Second c) (Second d) = c == d
-
--- both names are of one key: the same root by its number, and the same side
-abbrev pub is_same_key : KeyName → KeyName → Bool
-is_same_key a b = (a.root == b.root) && is_same_side a.side b.side
-
 -- the claim is of this identity and for this key
 abbrev pub is_for : ℕ → KeyName → Claim → Bool
-is_for id key claim = (claim.id == id) && is_same_key claim.key key
+is_for id key claim = (id == claim.id) && is_same_key key claim.key
 
 -- the claim is of this identity and for this key, and of an establishment other than est
 abbrev pub spends : ℕ → ℕ → KeyName → Claim → Bool
@@ -78,3 +74,8 @@ is_claimed claims new = list_any (is_same_claim new) claims
 -- the claims with one more, unless it stands already
 abbrev pub with_claim : List Claim → Claim → List Claim
 with_claim claims new = if is_claimed claims new then claims else claims ++ new ∷ []
+
+-- no identity is claimed for one key by two establishments: each claim is the only one of its identity and key
+abbrev pub HasOneClaimant : List Claim → Type 0
+HasOneClaimant [] = Unit {0}
+HasOneClaimant (claim ∷ claims) = IsTrue (not (list_any (is_for claim.id claim.key) claims)) × HasOneClaimant claims

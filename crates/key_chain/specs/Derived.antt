@@ -13,7 +13,7 @@ abbrev pub parameters : List (List ℕ) → List ℕ
 parameters [] = []
 parameters (p ∷ ps) = p ++ two_octets (length p) ++ parameters ps
 
--- the key derivation function: the code of FC and the parameters (TS 33.220, B.2.0)
+-- the key derivation function: the MAC of FC and the parameters (TS 33.220, B.2.0)
 abbrev pub kdf : List ℕ → ℕ → List (List ℕ) → List ℕ
 kdf key fc ps = hmac key (fc ∷ parameters ps)
 

@@ -14,7 +14,7 @@ block_key key = if nat_le (length key) 64 then padded_to_block key else padded_t
 abbrev pub xored_with : ℕ → List ℕ → List ℕ
 xored_with pad octets = map (λ o. bit_xor o pad) octets
 
--- the code of the text under the key (section 4, steps 4 to 9): ipad is the octet 36, opad 5c
+-- the MAC of the text under the key (section 4, steps 4 to 9): ipad is the octet 36, opad 5c
 abbrev pub hmac : List ℕ → List ℕ → List ℕ
 hmac key text =
     let k = block_key key in

@@ -3,4 +3,4 @@ pub mod Hmac
 pub mod Derived
 pub mod KeyNames
 pub mod Book
-pub mod Pages
+pub mod BookOfMaps

@@ -26,7 +26,7 @@ pub fn k_upenc(key: &[u8; 32], alg: Alg) -> [u8; 16]
     last
 }
 
-// The algorithm's identity (TS 33.501, 5.11.1.1).
+/// The algorithm's identity (TS 33.501, 5.11.1.1).
 fn identity(alg: Alg) -> u8
     ensures { result ≡ algorithm_identity alg }
 {

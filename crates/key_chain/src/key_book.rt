@@ -1,13 +1,14 @@
-//! The book of root keys, SN Counters and claims (TS 33.501, 6.10.3).
+//! The book of root keys, SN Counters and claims (TS 33.501, 6.10.2.1 and 6.10.3.1).
 
-ghost use Rattle.std.specs.Prelude.{◌≡◌, ◌<◌, ◌≤◌, ◌↔◌, ◌⊎◌, ◌^◌, ◌-◌, [], ◌∷◌, ◌++◌, length, not, IsTrue, IfOk, IfErr, OnOk, OnErr, IsErrOf};
-ghost use Rattle.key_chain.specs.Book.{Book, counters_drawn, IsDrawn, is_claimed, is_noted, is_spent, next_name, noting, with_claim, with_next_drawn};
+ghost use Rattle.std.specs.Prelude.{◌≡◌, ◌<◌, ◌≤◌, ◌↔◌, ◌⊎◌, ◌^◌, ◌-◌, [], ◌∷◌, length, not, IsTrue, IfOk, IfErr, OnOk, OnErr, IsErrOf};
+ghost use Rattle.key_chain.specs.Book.{Book, counters_drawn, HasOneClaimant, IsDrawn, is_noted, is_spent, next_name, noting, with_claim, with_next_drawn};
 ghost use Rattle.key_chain.specs.KeyNames.{octets};
-ghost use Rattle.key_chain.specs.Pages.{octets_of};
+ghost use Rattle.key_chain.specs.declared.key_book.KeyErr.TheVariants as errors;
 
 use crate::derive::k_sn;
 use dc_base::{DrbId, Gen, KeyName, Side};
-use std::alloc::Global;
+use indexmap::IndexMap;
+use std::alloc::{AllocFailed, Global};
 use std::marker::Model;
 use thiserror::Error;
 
@@ -17,10 +18,11 @@ pub enum KeyErr {
     /// SN Counter 65,535 of the current root was drawn (TS 33.501, 6.10.3.1).
     #[error("the SN counters of the root are spent")]
     CounterSpent,
-    /// The root was noted before.
+    /// The root was noted before, and its SN Counters would start again.
     #[error("the root was used before")]
     RootUsed,
-    /// Another establishment of the identity used the key (TS 33.501, 6.10.3.1).
+    /// Another establishment of the bearer identity claimed the key: COUNTs would come again under one key and
+    /// identity (TS 38.331, 5.3.1.2; TS 33.501, 6.10.2.1).
     #[error("the key was used for this identity before")]
     IdSpent,
     /// There was no memory.
@@ -28,79 +30,43 @@ pub enum KeyErr {
     Memory,
 }
 
-/// A claim: this establishment of this bearer identity uses this key.
-#[derive(Clone, Copy, Debug)]
-pub struct Claim {
-    pub id: DrbId,
-    pub key: KeyName,
-    /// The establishment, named by the generation in which the bearer was set up.
-    pub est: Gen,
-}
+impl<T: Drop> From<AllocFailed<T>> for KeyErr {
+    ghost from_gives = { λ _ e. e ≡ errors.Memory };
 
-impl Claim {
-    ghost use Rattle.std.specs.Prelude.{◌≡◌};
-    ghost use Rattle.key_chain.specs.Book.{is_for, is_same_claim, spends};
-
-    // Whether it is a claim of this identity for this key.
-    fn is_for(&self, id: DrbId, key: &KeyName) -> bool
-        ensures { result ≡ is_for id key.now self.now }
-    {
-        self.id == id && self.key == *key
-    }
-
-    // Whether it keeps this establishment of the identity from the key.
-    fn spends(&self, id: DrbId, est: Gen, key: &KeyName) -> bool
-        ensures { result ≡ spends id est key.now self.now }
-    {
-        self.is_for(id, key) && self.est != est
-    }
-
-    // Whether it is the other claim.
-    fn is_same(&self, other: &Claim) -> bool
-        ensures { result ≡ is_same_claim other.now self.now }
-    {
-        self.is_for(other.id, &other.key) && self.est == other.est
+    fn from(_e: AllocFailed<T>) -> KeyErr {
+        KeyErr::Memory
     }
 }
 
-// A root key, and how many of its SN Counters were drawn.
-#[derive(Clone, Copy, Debug)]
-struct Root {
-    octets: [u8; 32],
-    drawn: u32,
-}
-
-impl Root {
-    ghost use Rattle.std.specs.Prelude.{◌≡◌};
-    ghost use Rattle.std.specs.Str.{bytes_eq};
-
-    // Whether it is the root of these octets.
-    fn is(&self, octets: &[u8; 32]) -> bool
-        ensures { result ≡ bytes_eq self.now.octets octets.now }
-    {
-        self.octets == *octets
-    }
+/// What is claimed: a key for a bearer identity.
+#[derive(Clone, Copy, Debug, PartialEq, Eq, Hash)]
+struct KeyOfId {
+    id: DrbId,
+    key: KeyName,
 }
 
 /// The root keys in the order noted, numbered from 0; how many SN Counters of each were drawn; which
 /// root is current; and which establishment of which bearer identity claimed which key.
 #[derive(Debug, Drop)]
 pub struct KeyBook {
-    roots: Vec<Root>,
+    /// The octets of each root, with how many of its SN Counters were drawn, 0 to 65,536.
+    roots: IndexMap<[u8; 32], u32>,
+    /// The number of the current root.
     current: u32,
-    claims: Vec<Claim>,
+    /// The establishment that claimed a key for a bearer identity, in the order of the claims.
+    claims: IndexMap<KeyOfId, Gen>,
 }
 
 impl Model for KeyBook {
     ghost use Rattle.std.specs.Prelude.{◌<◌, length};
-    ghost use Rattle.key_chain.specs.Book.{Book};
-    ghost use Rattle.key_chain.specs.Pages.{book_of};
+    ghost use Rattle.key_chain.specs.Book.{Book, HasOneClaimant};
+    ghost use Rattle.key_chain.specs.BookOfMaps.{book_of, claims_of};
 
     ghost Value = { Book };
 
-    ghost view = { λ a. book_of a.roots.items a.current a.claims.items };
+    ghost view = { λ a. book_of a.roots.entries a.current a.claims.entries };
 
-    ghost invariant = { λ a. a.current < length a.roots.items };
+    ghost invariant = { λ a. (a.current < length a.roots.entries) × HasOneClaimant (claims_of a.claims.entries) };
 }
 
 impl KeyBook {
@@ -111,16 +77,12 @@ impl KeyBook {
         ensures ok { IfOk result (λ book. book ≡ record { roots = root.now ∷ []; drawn = used ∷ []; current = 0; claims = [] }) }
         ensures err { IfErr result (λ e. e ≡ KeyErr.Memory) }
     {
-        let mut roots = Vec::new(alloc);
-        let first = Root {
-            octets: *root,
-            drawn: used,
-        };
-        roots.push(first).map_err(|_| KeyErr::Memory)?;
+        let mut roots = IndexMap::new(alloc);
+        roots.insert(*root, used)?;
         Ok(KeyBook {
             roots,
             current: 0,
-            claims: Vec::new(alloc),
+            claims: IndexMap::new(alloc),
         })
     }
 
@@ -146,11 +108,11 @@ impl KeyBook {
         ensures err { OnErr result (self.new ≡ self.old) }
     {
         let number = self.current;
-        let root = &mut self.roots[number as usize];
-        let Ok(counter) = u16::try_from(root.drawn) else {
+        let drawn = self.roots[number as usize];
+        let Ok(counter) = u16::try_from(drawn) else {
             return Err(KeyErr::CounterSpent);
         };
-        root.drawn += 1;
+        self.roots[number as usize] = drawn + 1;
         Ok(KeyName {
             root: number,
             side: Side::Second(counter),
@@ -167,15 +129,11 @@ impl KeyBook {
         ensures only { IfErr result (λ e. (e ≡ KeyErr.RootUsed) ⊎ (e ≡ KeyErr.Memory)) }
         ensures err { OnErr result (self.new ≡ self.old) }
     {
-        if is_noted(&self.roots, root) {
+        if self.roots.contains_key(root) {
             return Err(KeyErr::RootUsed);
         }
         let number = self.roots.len() as u32;
-        let next = Root {
-            octets: *root,
-            drawn: 0,
-        };
-        self.roots.push(next).map_err(|_| KeyErr::Memory)?;
+        self.roots.insert(*root, 0)?;
         Ok(number)
     }
 
@@ -189,28 +147,34 @@ impl KeyBook {
 
     /// Whether this establishment may use the key: no other establishment of the identity claimed it.
     pub fn may_claim(&self, id: DrbId, est: Gen, key: &KeyName) -> bool
-        ensures { result ≡ not (is_spent self.now.claims id est key.now) }
+        ensures free { result ≡ not (is_spent self.now.claims id est key.now) }
+        ensures one { HasOneClaimant self.now.claims }
     {
-        !is_spent(&self.claims, id, est, key)
+        match self.claims.get(&KeyOfId { id, key: *key }) {
+            Some(claimant) => *claimant == est,
+            None => true,
+        }
     }
 
     /// Claims the key for this establishment of the identity. A claim that stands already is `Ok` again and
     /// changes nothing. `IdSpent` exactly where another establishment of the identity claimed the key
-    /// (TS 33.501, 6.10.3.1).
+    /// (TS 38.331, 5.3.1.2; TS 33.501, 6.10.2.1).
     pub fn claim(&mut self, id: DrbId, est: Gen, key: &KeyName) -> Result<(), KeyErr>
         ensures ok { OnOk result (self.new ≡ record self.old { claims = with_claim self.old.claims (record { id = id; key = key.now; est = est }) }) }
+        ensures one { HasOneClaimant self.new.claims }
         ensures spent { IsErrOf result KeyErr.IdSpent ↔ IsTrue (is_spent self.old.claims id est key.now) }
         ensures only { IfErr result (λ e. (e ≡ KeyErr.IdSpent) ⊎ (e ≡ KeyErr.Memory)) }
         ensures err { OnErr result (self.new ≡ self.old) }
     {
-        if !self.may_claim(id, est, key) {
-            return Err(KeyErr::IdSpent);
+        let what = KeyOfId { id, key: *key };
+        match self.claims.get(&what) {
+            Some(claimant) if *claimant != est => Err(KeyErr::IdSpent),
+            Some(_) => Ok(()),
+            None => {
+                self.claims.insert(what, est)?;
+                Ok(())
+            }
         }
-        let claim = Claim { id, key: *key, est };
-        if !is_claimed(&self.claims, &claim) {
-            self.claims.push(claim).map_err(|_| KeyErr::Memory)?;
-        }
-        Ok(())
     }
 
     /// The octets of a key: the root, or K_SN of the root and the counter (TS 33.501, A.16). The root has
@@ -219,31 +183,10 @@ impl KeyBook {
         requires { key.now.root < length self.now.roots }
         ensures { result ≡ octets self.now.roots key.now }
     {
-        let root = &self.roots[key.root as usize];
+        let (root, _) = self.roots.get_index(key.root as usize).unwrap();
         match key.side {
-            Side::Master => root.octets,
-            Side::Second(counter) => k_sn(&root.octets, counter),
+            Side::Master => *root,
+            Side::Second(counter) => k_sn(root, counter),
         }
     }
-}
-
-// Whether one of the roots has these octets.
-fn is_noted(roots: &[Root], octets: &[u8; 32]) -> bool
-    ensures { result ≡ is_noted (octets_of roots.now) octets.now }
-{
-    roots.iter().any(|root| root.is(octets))
-}
-
-// Whether one of the claims keeps this establishment of the identity from the key.
-fn is_spent(claims: &[Claim], id: DrbId, est: Gen, key: &KeyName) -> bool
-    ensures { result ≡ is_spent claims.now id est key.now }
-{
-    claims.iter().any(|claim| claim.spends(id, est, key))
-}
-
-// Whether the claim stands already.
-fn is_claimed(claims: &[Claim], claim: &Claim) -> bool
-    ensures { result ≡ is_claimed claims.now claim.now }
-{
-    claims.iter().any(|stands| stands.is_same(claim))
 }

@@ -7,7 +7,7 @@ mod key_book;
 mod mac;
 
 pub use derive::{k_sn, k_upenc};
-pub use key_book::{Claim, KeyBook, KeyErr};
+pub use key_book::{KeyBook, KeyErr};
 pub use mac::hmac;
 
 #[cfg(test)]

@@ -1,4 +1,4 @@
-//! HMAC with SHA-256 (FIPS 198-1).
+//! HMAC with SHA-256 (FIPS 198-1): the MAC of a text under a key.
 
 ghost use Rattle.std.specs.Prelude.{◌≡◌, ◌≤◌, length};
 ghost use Rattle.key_chain.specs.Hmac.{block_key, hmac, padded_to_block, xored_with};
@@ -14,7 +14,7 @@ const INNER_PAD: u8 = 0x36;
 /// The octet that masks the key outside (FIPS 198-1, opad).
 const OUTER_PAD: u8 = 0x5c;
 
-/// The HMAC-SHA-256 of `text` under `key` (FIPS 198-1). Any lengths will do: a key longer than a
+/// The HMAC-SHA-256, a MAC, of `text` under `key` (FIPS 198-1). Any lengths will do: a key longer than a
 /// block of 64 octets is hashed first. It takes no memory.
 pub fn hmac(key: &[u8], text: &[u8]) -> [u8; 32]
     ensures { result ≡ hmac key.now text.now }
@@ -29,7 +29,7 @@ pub fn hmac(key: &[u8], text: &[u8]) -> [u8; 32]
     outer.finalize()
 }
 
-// The key as one block: hashed if it is longer, then padded with zeros.
+/// The key as one block: hashed if it is longer, then padded with zeros.
 fn block_key(key: &[u8]) -> [u8; 64]
     ensures { result ≡ block_key key.now }
 {
@@ -40,7 +40,7 @@ fn block_key(key: &[u8]) -> [u8; 64]
     }
 }
 
-// The key with zeros behind it, up to a block.
+/// The key, of at most 64 octets, with zeros behind it, up to a block.
 fn padded(key: &[u8]) -> [u8; 64]
     requires { length key.now ≤ 64 }
     ensures { result ≡ padded_to_block key.now }
@@ -50,7 +50,7 @@ fn padded(key: &[u8]) -> [u8; 64]
     block
 }
 
-// The block with each octet masked.
+/// The block with each octet masked.
 fn xored(block: &[u8; 64], pad: u8) -> [u8; 64]
     ensures { result ≡ xored_with pad block.now }
 {

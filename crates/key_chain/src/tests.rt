@@ -5,30 +5,30 @@ use dc_base::{Alg, DrbId, KeyName, Side};
 use std::process::Abort;
 use std::test::Fail;
 
-// The octets as one number, high first.
+/// The octets as one number, high first.
 fn number(octets: &[u8]) -> u128 {
     octets
         .iter()
         .fold(0, |sum, octet| sum << 8 | *octet as u128)
 }
 
-// A code of 32 octets as two numbers.
-fn halves(code: &[u8; 32]) -> (u128, u128) {
-    (number(&code[..16]), number(&code[16..]))
+/// A MAC or key of 32 octets as two numbers.
+fn halves(mac: &[u8; 32]) -> (u128, u128) {
+    (number(&mac[..16]), number(&mac[16..]))
 }
 
-// A key, a text, and its code.
+/// A key, a text, and its MAC.
 type Case<'a> = (&'a [u8], &'a [u8], (u128, u128));
 
-// Whether each text has its code.
-fn have_codes(rt: &impl Abort, cases: &[Case]) {
-    for (key, text, code) in cases {
-        assert_eq!(rt; halves(&hmac(key, text)), *code);
+/// Compares the MAC of each text.
+fn check_macs(rt: &impl Abort, cases: &[Case]) {
+    for (key, text, mac) in cases {
+        assert_eq!(rt; halves(&hmac(key, text)), *mac);
     }
 }
 
 #[test]
-fn codes_of_rfc_4231(rt: HostRuntime) {
+fn macs_of_rfc_4231(rt: HostRuntime) {
     let mut rising = [0; 25];
     for (place, octet) in rising.iter_mut().enumerate() {
         *octet = place as u8 + 1;
@@ -67,11 +67,11 @@ fn codes_of_rfc_4231(rt: HostRuntime) {
             ),
         ),
     ];
-    have_codes(&rt, &cases);
+    check_macs(&rt, &cases);
 }
 
 #[test]
-fn codes_of_rfc_4231_by_long_keys(rt: HostRuntime) {
+fn macs_of_rfc_4231_by_long_keys(rt: HostRuntime) {
     let cases: [Case; 2] = [
         (
             &[0xaa; 131],
@@ -90,10 +90,10 @@ fn codes_of_rfc_4231_by_long_keys(rt: HostRuntime) {
             ),
         ),
     ];
-    have_codes(&rt, &cases);
+    check_macs(&rt, &cases);
 }
 
-// By Python's `hmac.new(key, text, hashlib.sha256)` over the octets of TS 33.501, A.8 and A.16.
+/// By Python's `hmac.new(key, text, hashlib.sha256)` over the octets of TS 33.501, A.8 and A.16.
 #[test]
 fn keys_of_a_root(rt: HostRuntime) {
     let root = [0x11; 32];

@@ -1,5 +1,9 @@
+pub mod Blocks
+pub mod Gates
+pub mod Octets
+pub mod Rows
+pub mod Swaps
 pub mod CombinedLaws
 pub mod KeystreamLaws
-pub mod OctetWords
-pub mod RoundKeys
-pub mod TableRules
+pub mod Counters
+pub mod RoundKeyLemmas

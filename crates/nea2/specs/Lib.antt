@@ -1,6 +1,9 @@
--- the definitions that contracts cite
+-- the cipher and the keystream: what a reader has to believe
 pub mod Cipher
 pub mod Combined
 pub mod Field
 pub mod Keystream
-pub mod Words
+-- how the code keeps eight blocks, the wires of its circuit, and the round keys
+pub mod Circuit
+pub mod Planes
+pub mod RoundKeys

@@ -1,30 +1,45 @@
-use Rattle.std.proofs.Common.{◌≡◌, ℕ, ◌*◌, ◌-◌, List, [], ◌++◌, length, drop, take, append-nil, length-drop, refl, ◌∙◌, ap, arith}
+use Rattle.std.proofs.Common.{◌≡◌, ℕ, ◌+◌, ◌-◌, ◌*◌, ◌++◌, length, drop, take, refl, ◌∙◌, ap, arith}
 use Rattle.std.specs.Int.{div_ceil}
-use Rattle.std.proofs.lemmas.List.{drop_all, take_rest}
 use Rattle.nea2.specs.Cipher.{cipher}
 use Rattle.nea2.specs.Combined.{combined}
-use Rattle.nea2.specs.Keystream.{stream_blocks}
-use Rattle.nea2.proofs.KeystreamLaws.{combined-keystream, combined-stream_blocks}
+use Rattle.nea2.specs.Keystream.{counter_block, stream_blocks}
+use Rattle.nea2.proofs.KeystreamLaws.{combined-enough, combined-keystream, combined-stream_blocks}
 use Rattle.nea2.proofs.stream.encipher.Goals as goal
 
-pub stream-init : goal.stream-init
+pub batches-init : goal.batches-init
 unfolding stream_blocks
-stream-init c = refl
+batches-init c = refl
 
-pub stream-preserved : goal.stream-preserved
-stream-preserved c =
-    let key = c.args.key.now in
-    let number = c.stream.number in
-    let text = c.stream.text in
-    let start : ℕ = 16 * number in
-    let block = c.block-stream.ensures ∙ ap (cipher key) c.counter_block.ensures in
-    let part = c.combine.ensures ∙ (λ i. combined (take_rest text start i) (block i)) in
-    let past : drop (length text - start) (drop start text) ≡ [] = drop_all (length text - start) (drop start text) (omega (arith, length-drop start text)) in
-    (λ i. take start text ++ (c.combine.new.text ++ past i)) ∙ ap (λ (rest : List ℕ). take start text ++ rest) (append-nil c.combine.new.text)
-    ∙ combined-stream_blocks c.args.text.now key c.args.count c.args.id c.args.dir number text c.combine.new.text c.stream.invariant part
+pub parts-init : goal.parts-init
+parts-init c =
+    let e : 8 * c.batches.batch ≡ 8 * c.batches.batch + 0 = omega arith in
+    c.batches.invariant ∙ ap (λ (n : ℕ). combined c.args.text.now (stream_blocks c.args.key.now c.args.count c.args.id c.args.dir n)) e
+
+pub parts-preserved : goal.parts-preserved
+parts-preserved c =
+    let n = 8 * c.batches.batch + c.parts.k in
+    let text = c.parts.text in
+    let place : 128 * c.batches.batch + 16 * c.parts.k ≡ 16 * n = omega arith in
+    let next : 8 * c.batches.batch + c.parts.k + 1 ≡ 8 * c.batches.batch + (c.parts.k + 1) = omega arith in
+    let block = c.stream_blocks-stream.ensures.each_block c.parts.k (omega arith) in
+    c.combine_at.ensures
+    ∙ (λ i. take (place i) text ++ combined (drop (place i) text) (block i))
+    ∙ combined-stream_blocks c.args.text.now c.args.key.now c.args.count c.args.id c.args.dir n text (combined (drop (16 * n) text) (cipher c.args.key.now (counter_block c.args.count c.args.id c.args.dir n)))
+    c.parts.invariant refl
+    ∙ ap (λ (m : ℕ). combined c.args.text.now (stream_blocks c.args.key.now c.args.count c.args.id c.args.dir m)) next
+
+pub batches-preserved : goal.batches-preserved
+batches-preserved c =
+    let e : 8 * c.batches.batch + c.parts.k ≡ 8 * (c.batches.batch + 1) = omega arith in
+    c.parts.invariant ∙ ap (λ (m : ℕ). combined c.args.text.now (stream_blocks c.args.key.now c.args.count c.args.id c.args.dir m)) e
 
 pub returns : goal.returns
 returns c =
-    let done : c.stream.number ≡ div_ceil (length c.args.text.now) 16 = omega arith in
-    (rw done at c.stream.invariant)
-    ∙ combined-keystream c.args.text.now c.args.key.now c.args.count c.args.id c.args.dir (length c.args.text.now) refl
+    let text = c.args.text.now in
+    let n = div_ceil (length text) 16 in
+    let more = 8 * c.batches.batch - n in
+    let e : 8 * c.batches.batch ≡ n + more = omega arith in
+    c.batches.invariant
+    ∙ ap (λ (m : ℕ). combined text (stream_blocks c.args.key.now c.args.count c.args.id c.args.dir m)) e
+    ∙ combined-enough text c.args.key.now c.args.count c.args.id c.args.dir n more (omega arith)
+    ∙ combined-keystream text c.args.key.now c.args.count c.args.id c.args.dir (length text) refl

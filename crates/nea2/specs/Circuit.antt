@@ -1,0 +1,75 @@
+-- The wires of the circuit of the substitution. What a wire carries for an octet is a Boolean function of
+-- the octet, written as a table: a number whose bit n is its value at octet n.
+use Rattle.std.specs.Prelude.{◌≡◌, ℕ, ◌<◌, List, [], ◌∷◌, length, slice_index, slice_index_or}
+use Rattle.std.specs.Int.{bit_at}
+use Rattle.nea2.specs.Planes.{octet_of}
+
+-- bit k of lane j of the wire is the table's value at octet j of block k of the planes q
+pub record Follows (q : List (List ℕ)) (wire : List ℕ) (table : ℕ) : Type 0 where
+  pub full : length wire ≡ 16
+  pub bits : (j k : ℕ) → j < 16 → k < 8 → bit_at (slice_index wire j) k ≡ bit_at table (octet_of q k j)
+
+-- each wire follows its table
+abbrev pub AllFollow : List (List ℕ) → List (List ℕ) → List ℕ → Type 0
+AllFollow q wires tables =
+    (i : ℕ) → i < length tables → Follows q (slice_index_or wires i []) (slice_index tables i)
+
+-- the tables of the wires after the first layer
+abbrev pub first_layer_tables : List ℕ
+first_layer_tables =
+    0xaaaaaaaaaaaaaaaaaaaaaaaaaaaaaaaaaaaaaaaaaaaaaaaaaaaaaaaaaaaaaaaa
+    ∷ 0xaaaaaaaa5555555555555555aaaaaaaaaaaaaaaa5555555555555555aaaaaaaa
+    ∷ 0x55555555aaaaaaaaaaaaaaaa55555555aaaaaaaa5555555555555555aaaaaaaa
+    ∷ 0x6969696996969696969696966969696996969696696969696969696996969696
+    ∷ 0x5555aaaaaaaa5555aaaa55555555aaaa5555aaaaaaaa5555aaaa55555555aaaa
+    ∷ 0x6666666699999999999999996666666666666666999999999999999966666666
+    ∷ 0x9966669999666699996666999966669966999966669999666699996666999966
+    ∷ 0x9669966996699669699669966996699696699669966996696996699669966996
+    ∷ 0xf0f0f0f0f0f0f0f0f0f0f0f0f0f0f0ff0f0f0f0f0f0f0f0f0f0f0f0f0f0f0f0
+    ∷ 0xffff0000ffff0000ffff0000ffffffff0000ffff0000ffff0000ffff0000
+    ∷ 0x33cccc33cc3333cccc3333cc33cccc33cc3333cc33cccc3333cccc33cc3333cc
+    ∷ 0x3cc33cc33cc33cc3c33cc33cc33cc33c3cc33cc33cc33cc3c33cc33cc33cc33c
+    ∷ 0x3c3cc3c33c3cc3c33c3cc3c33c3cc3c3c3c33c3cc3c33c3cc3c33c3cc3c33c3c
+    ∷ 0x33333333333333333333333333333333cccccccccccccccccccccccccccccccc
+    ∷ 0xf0ff0f00f0ff0f00f0ff0f00f0ff0f00f0ff0f00f0ff0f00f0ff0f00f0ff0f0
+    ∷ 0x33cccc3333cccc3333cccc3333cccc33cc3333cccc3333cccc3333cccc3333cc
+    ∷ 0x3cc33cc3c33cc33c3cc33cc3c33cc33c3cc33cc3c33cc33c3cc33cc3c33cc33c
+    ∷ 0xf0ff0f0f0f00f0f0f0ff0f0f0f00f0ff0f00f0f0f0ff0f0f0f00f0f0f0ff0f0
+    ∷ 0xc33cc33c3cc33cc3c33cc33c3cc33cc33cc33cc3c33cc33c3cc33cc3c33cc33c
+    ∷ 0x3cc3c33cc33c3cc3c33c3cc33cc3c33c3cc3c33cc33c3cc3c33c3cc33cc3c33c
+    ∷ 0x3cc3c33c3cc3c33cc33c3cc3c33c3cc3c33c3cc3c33c3cc33cc3c33c3cc3c33c
+    ∷ 0xff00ff0f00ff00f0ff00ff0f00ff00ff00ff00f0ff00ff0f00ff00f0ff00ff0 ∷ []
+
+-- the tables of the wires after the middle layer
+abbrev pub middle_layer_tables : List ℕ
+middle_layer_tables =
+    0x12cc40323384cc2131c4042201cc0021c0321204cc13224c0c0301cc0801004c
+    ∷ 0x9024061891660498906202891866229804988846021191442289986020101142
+    ∷ 0xa02282aaa0088a20a2aa0a28a02880002a8a82a8aa202a0082a2a08a20aa0a2a
+    ∷ 0xc423c01811083203c801080c310411c384014834138c10014813003022c8214
+    ∷ 0x282a000411040051101554400822a2a002aa88a0504041501544455a8a8a88a
+    ∷ 0x221864114491069601028902810419200611448944094694800489061026106
+    ∷ 0x28c3188334810002c334031c4328c22004812881088200c2c0004114c23c4020
+    ∷ 0xa0c60e0e06005090805c03070000f04d0600a050c09101070900f08070290a0
+    ∷ 0x314c040048222280cc1232c0214488128c032104334cc82021040402c01222c8
+    ∷ 0x141c40c23034c2c1341400820c1c0281c2021c24c103281c00030c3c01c10c3c
+    ∷ 0x6028010892960494961202866860216884908086006141492869686100121612
+    ∷ 0x405082aaa0085055a2aa150551118000444482a8aa20150182a2150401150a2a
+    ∷ 0x223211111133203130111033133111084c848040c8c040448c00040c8c88c4
+    ∷ 0x642204089188009198999084402222600226042810808990998889960646002
+    ∷ 0x10105450088082a200828a000504551282228085454555554415450a202220a
+    ∷ 0x58af0000831a000033dd0000d6a246a900000bb60000d8830000d6fc0000
+    ∷ 0xa0c60e00e0760800805c030020c50700b0ac0a00c091010090670d0070290a0
+    ∷ 0x10f060c0a0606030f0206030905090690c06010b050d0e0a0101080c090e0c0 ∷ []
+
+-- the tables of the bits of an octet's substitution
+abbrev pub substitution_tables : List ℕ
+substitution_tables =
+    0x4f1ead396f247a0410bdb210c006eab568ab4bfa8acb7a13b14ede67096c6eed
+    ∷ 0xc870974094ead8a96a450b2ef33486b4e61a4c5e97816f7a7bae007d4c53fc7d
+    ∷ 0xac39b6c0d6ce2efc577d64e03b0c3ffb23a869a2a428c424a16387fb3b48b4c6
+    ∷ 0x4e9ddb76c892fb1be9da849cf6ac6c1b2568ea2effa8527d109020a2193d586a
+    ∷ 0xf210a3aece472e532624b286bc48ecb4f7f17a494ce30f58c2b0f97752b8b11e
+    ∷ 0x54b248130b4f256f7d8dcc4706319e086bc2aa4e0d787aa4f8045f7b6d98dd7f
+    ∷ 0x21e0b833255917823f6bcb91b30db559e4851b3bf3ab2560980a3cc2c2fdb4ff
+    ∷ 0x52379de7b844e3e14cb3770196ca0329e7bac28f866aac825caa2ec7bf977090 ∷ []
