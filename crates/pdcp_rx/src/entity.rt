@@ -179,7 +179,9 @@ impl Rx {
     {
         let mut stored = BTreeMap::new(alloc);
         for (count, sdu) in parts.stored.into_vec() {
-            stored.insert(count, sdu)?;
+            if stored.insert(count, sdu).is_err() {
+                return Err(Memory);
+            }
         }
         Ok(Rx {
             n: parts.n,
