@@ -1,10 +1,10 @@
 //! The text of scripts and transcripts: each line is written, and each line of a script is read.
 #![tactic(auto)]
 
+mod field_reader;
 mod fields;
 mod flights;
 mod lines;
-mod places;
 mod reading;
 mod scripted;
 mod spelling;
