@@ -7,7 +7,8 @@ use Rattle.dc_base.specs.declared.events.Event.TheVariants as event
 use Rattle.dc_base.specs.declared.events.Header.{Header}
 use Rattle.transcript.specs.Words.{dir_word, node_word, sn_word, link_word, shape_word, want_word, state_word}
 use Rattle.transcript.specs.Text.{event_text}
-use Rattle.script_text.specs.Grammar.{is_link, is_shape, is_secondary}
+use Rattle.dc_base.specs.Links.{is_link}
+use Rattle.dc_base.specs.Nodes.{is_shape, is_secondary}
 use Rattle.script_text.specs.declared.scripted.Scripted.{Scripted}
 use Rattle.script_text.specs.declared.scripted.Scripted.TheVariants.{One, Drain}
 

@@ -4,7 +4,8 @@ ghost use Rattle.std.specs.Prelude.{◌≡◌, ◌≢◌, ◌≤◌, ℕ, List, 
 ghost use Rattle.std.specs.Fmt.{decimal};
 ghost use Rattle.transcript.specs.Words.{dir_word, link_word};
 ghost use Rattle.transcript.specs.Text.{header_text};
-ghost use Rattle.script_text.specs.Grammar.{Kind, kinds, header_kinds, command_word, is_link, identity, payload, Linked, word_32, IsColumn, IsHeaderColumn};
+ghost use Rattle.dc_base.specs.Links.{is_link};
+ghost use Rattle.script_text.specs.Grammar.{Kind, kinds, header_kinds, command_word, identity, payload, Linked, word_32, IsColumn, IsHeaderColumn};
 ghost use Rattle.transcript.specs.Text.{event_text};
 ghost use Rattle.script_text.specs.Scripts.{IsScripted, IsScriptHeader, IsIdentity, IsLineOf, IsFieldsOf};
 ghost use Rattle.script_text.specs.declared.spelling.Command.TheVariants as command;

@@ -7,7 +7,9 @@ ghost use Rattle.std.specs.Fmt.{decimal};
 ghost use Rattle.hex.specs.Hex.{encode_lower, IsBytes};
 ghost use Rattle.transcript.specs.Words.{node_word, alg_word, sn_word, link_word, shape_word, want_word, state_word};
 ghost use Rattle.script_text.specs.Spelling.{value_of};
-ghost use Rattle.script_text.specs.Grammar.{command_word, is_link, is_secondary, is_shape, Allows, Kind, AnyNode, Secondary, Sequence, Cipher, State, Wanted, Shaped, Linked, identity, root};
+ghost use Rattle.dc_base.specs.Links.{is_link};
+ghost use Rattle.dc_base.specs.Nodes.{is_secondary, is_shape};
+ghost use Rattle.script_text.specs.Grammar.{command_word, Allows, Kind, AnyNode, Secondary, Sequence, Cipher, State, Wanted, Shaped, Linked, identity, root};
 ghost use Rattle.script_text.specs.Scripts.{IsIdentity, IsRoot};
 
 use crate::field_reader::number_of;
