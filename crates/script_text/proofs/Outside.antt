@@ -258,16 +258,16 @@ is_command (event.Submit id Ul sdu) h = record {
   rest = decimal id ∷ encode_lower sdu ∷ [];
   is = refl;
   other = λ e. cc;
-  sorts = ((id, h.0.0, h.0.1, refl), ((sdu, h.1.0, h.1.1, h.1.2, refl), tt));
-  spaceless = (refl, (id_below id h.0.1, (octets_are_spaceless sdu h.1.0, tt)));
+  sorts = ((id, h.0.0, h.0.1, refl), ((sdu, h.1.bytes, h.1.some, h.1.most, refl), tt));
+  spaceless = (refl, (id_below id h.0.1, (octets_are_spaceless sdu h.1.bytes, tt)));
 }
 is_command (event.Submit id Dl sdu) h = record {
   which = command.Dl;
   rest = decimal id ∷ encode_lower sdu ∷ [];
   is = refl;
   other = λ e. cc;
-  sorts = ((id, h.0.0, h.0.1, refl), ((sdu, h.1.0, h.1.1, h.1.2, refl), tt));
-  spaceless = (refl, (id_below id h.0.1, (octets_are_spaceless sdu h.1.0, tt)));
+  sorts = ((id, h.0.0, h.0.1, refl), ((sdu, h.1.bytes, h.1.some, h.1.most, refl), tt));
+  spaceless = (refl, (id_below id h.0.1, (octets_are_spaceless sdu h.1.bytes, tt)));
 }
 is_command (event.Step link index) h = record {
   which = command.Step;

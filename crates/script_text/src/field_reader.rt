@@ -5,7 +5,7 @@ ghost use Rattle.std.specs.List.{position, position_or_len};
 ghost use Rattle.std.specs.Fmt.{decimal};
 ghost use Rattle.hex.specs.Hex.{encode_lower, IsBytes};
 ghost use Rattle.script_text.specs.Grammar.{fields, is_space, Allows, Kind, Exactly, Number, payload};
-ghost use Rattle.script_text.specs.Scripts.{IsPayload};
+ghost use Rattle.pdcp_pdu.specs.DataPdu.{IsPayload};
 ghost use Rattle.script_text.specs.declared.scripted.LineFault.TheVariants.{Column};
 ghost use Rattle.script_text.specs.Places.{Takes, IsFaultAt};
 
