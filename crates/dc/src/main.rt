@@ -4,23 +4,46 @@
 
 use dc_base::Status;
 use dc_outside::{StdSink, StdSource};
-use dc_top::run_command;
+use dc_top::{run_command, write_fault};
 use std::alloc::AllocError;
+use std::io::ErrorKind;
 use std::process::ExitCode;
 use std::{env, io};
 
+/// The words of the command line, without the program's name. `Usage` where one of them is not UTF-8, `Memory` where there
+/// was none for them.
+fn words(rt: &HostRuntime) -> Result<Vec<String>, Status> {
+    match env::args(rt) {
+        Ok(args) => {
+            let words: Result<Vec<String>, AllocError> = args.skip(1).collect(rt.alloc());
+            words.map_err(|_| Status::Memory)
+        }
+        Err(error) => Err(status_of(&error)),
+    }
+}
+
+/// The status for words that could not be read.
+fn status_of(error: &io::Error) -> Status {
+    if error.kind() == ErrorKind::OutOfMemory {
+        Status::Memory
+    } else {
+        Status::Usage
+    }
+}
+
 fn main(rt: HostRuntime) -> ExitCode {
     let alloc = rt.alloc();
-    let Ok(args) = env::args(&rt) else {
-        return ExitCode::from(Status::Usage.number());
-    };
-    let words: Result<Vec<String>, AllocError> = args.skip(1).collect(alloc);
-    let Ok(words) = words else {
-        return ExitCode::from(Status::Memory.number());
-    };
-    let mut src = StdSource::new(rt.reader());
-    let mut out = StdSink::new(rt.stdout());
     let mut err = StdSink::new(rt.stderr());
-    let status = run_command(alloc, words.as_slice(), &mut src, &mut out, &mut err);
+    let status = match words(&rt) {
+        Ok(words) => {
+            let mut src = StdSource::new(rt.reader());
+            let mut out = StdSink::new(rt.stdout());
+            run_command(alloc, words.as_slice(), &mut src, &mut out, &mut err)
+        }
+        Err(status) => {
+            write_fault(alloc, status, &mut err);
+            status
+        }
+    };
     ExitCode::from(status.number())
 }

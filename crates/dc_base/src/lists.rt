@@ -107,6 +107,13 @@ impl Octets {
         Ok(())
     }
 
+    /// Takes all octets away. Their memory is used again for what is added next.
+    pub fn clear(&mut self)
+        ensures { self.new ≡ [] }
+    {
+        self.octets.clear();
+    }
+
     /// The octets.
     pub fn as_slice(&self) -> &[u8]
         ensures { result.now ≡ self.now }

@@ -8,7 +8,7 @@ use Rattle.pdcp_pdu.specs.Bitmap.{is_shown}
 use Rattle.pdcp_pdu.specs.Pdu.{Content, sdu, report, decoded}
 use Rattle.pdcp_pdu.specs.declared.pdu.PduErr.{PduErr}
 use Rattle.pdcp_pdu.specs.declared.pdu.PduErr.TheVariants as pdu
-use Rattle.gtpu.specs.Content.{Content as Said}
+use Rattle.gtpu.specs.Content.{Content as PacketContent}
 use Rattle.gtpu.specs.Grammar.{IsPacket}
 use Rattle.gtpu.specs.Fault.{HasFault}
 use Rattle.gtpu.specs.declared.packet.GtpKind.{GtpKind}
@@ -88,7 +88,7 @@ body_text [] = []
 body_text (o ∷ os) = codes " body " ++ encode_lower (o ∷ os)
 
 -- what a packet says: its message type and TEID, and then those of container, number and body that it has
-abbrev pub packet_text : Said → List ℕ
+abbrev pub packet_text : PacketContent → List ℕ
 packet_text p = kind_name p.kind ++ numbered (codes " teid ") p.teid ++ container_text p.container ++ number_text p.number ++ body_text p.body
 
 -- why octets are no packet: the first check that fails, and its place
@@ -141,6 +141,6 @@ abbrev pub IsShown : Kind → List ℕ → List ℕ → Type 0
 IsShown Pdu12 octets text = text ≡ ended (pdu_text (decoded S12 octets))
 IsShown Pdu18 octets text = text ≡ ended (pdu_text (decoded S18 octets))
 IsShown Gtp octets text =
-    ((p : Said) × IsPacket p octets × (text ≡ ended (packet_text p))) ⊎ ((e : GtpErr) × HasFault octets e × (text ≡ ended (gtp_fault_text e)))
+    ((p : PacketContent) × IsPacket p octets × (text ≡ ended (packet_text p))) ⊎ ((e : GtpErr) × HasFault octets e × (text ≡ ended (gtp_fault_text e)))
 IsShown Nru octets text =
     ((f : Frame) × IsFrame octets f × (text ≡ ended (frame_text f))) ⊎ ((e : NruErr) × IsFaultOf octets e × IsNruFaultLine e text)

@@ -7,20 +7,20 @@ ghost use Rattle.dc_forms.specs.declared.form.Form.{Form};
 ghost use Rattle.dc_forms.specs.Forms.{IsForm, IsOutput, HasFormText, named};
 
 use crate::form::Form;
-use crate::pieces::push_hex;
 use crate::reading::read_form;
 use crate::shown::show;
 use dc_base::{Alg, Dir, DrbId, Memory, Octets};
+use dc_text::write_hex;
 use key_chain::{k_sn, k_upenc};
 use nea2::{Aes128, nea};
 use std::alloc::Global;
 
-/// Adds a line of a name and octets.
-fn push_named(alloc: Global, out: &mut Octets, name: &[u8], octets: &[u8]) -> Result<(), Memory>
+/// Writes a line of a name and octets.
+fn write_named(out: &mut Octets, name: &[u8], octets: &[u8]) -> Result<(), Memory>
     ensures { OnOk result (out.new ≡ out.old ++ named name.now octets.now) }
 {
     out.extend(name)?;
-    push_hex(alloc, out, octets)?;
+    write_hex(out, octets)?;
     out.push(b'\n')
 }
 
@@ -30,10 +30,9 @@ fn keys(alloc: Global, root: &[u8; 32], counter: u16) -> Result<Octets, Memory>
 {
     let second = k_sn(root, counter);
     let mut out = Octets::new(alloc);
-    push_named(alloc, &mut out, b"master-upenc ", &k_upenc(root, Alg::Nea2))?;
-    push_named(alloc, &mut out, b"ksn ", &second)?;
-    push_named(
-        alloc,
+    write_named(&mut out, b"master-upenc ", &k_upenc(root, Alg::Nea2))?;
+    write_named(&mut out, b"ksn ", &second)?;
+    write_named(
         &mut out,
         b"second-upenc ",
         &k_upenc(&second, Alg::Nea2),
@@ -53,9 +52,7 @@ fn cipher(
     requires { length text.now ≤ 9000 }
     ensures { IfOk result (λ line. IsOutput (Form.Cipher key.now count id dir text.now) line) }
 {
-    let Ok(mut octets) = Vec::from_slice(alloc, text.as_slice()) else {
-        return Err(Memory);
-    };
+    let mut octets = Vec::from_slice(alloc, text.as_slice())?;
     nea(
         Alg::Nea2,
         &Aes128::new(key),
@@ -65,7 +62,7 @@ fn cipher(
         octets.as_mut_slice(),
     );
     let mut out = Octets::new(alloc);
-    push_named(alloc, &mut out, b"", octets.as_slice())?;
+    write_named(&mut out, b"", octets.as_slice())?;
     Ok(out)
 }
 

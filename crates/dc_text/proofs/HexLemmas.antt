@@ -1,6 +1,7 @@
 -- Which texts `encode_lower` writes.
-use Rattle.std.proofs.Common.{◌≡◌, ℕ, zero, suc, ◌+◌, ◌-◌, ◌*◌, ◌/◌, ◌%◌, ◌<◌, ◌==◌, ◌&&◌, nat_lt, Bool, true, if◌then◌else◌, List, [], ◌∷◌, length, slice_index, EachIndex, Ok, Err, inl, inr, refl, sym, ◌∙◌, ap, arith}
+use Rattle.std.proofs.Common.{◌≡◌, ℕ, zero, suc, ◌+◌, ◌-◌, ◌*◌, ◌/◌, ◌%◌, ◌<◌, ◌==◌, ◌&&◌, nat_lt, Bool, true, if◌then◌else◌, List, [], ◌∷◌, ◌++◌, length, slice_index, EachIndex, Ok, Err, inl, inr, refl, sym, ◌∙◌, ap, arith}
 use Rattle.std.proofs.lemmas.Bool.{and_parts, cases_lt, eqb-true}
+use Rattle.std.proofs.lemmas.List.{append-nil, append_assoc}
 use Rattle.hex.specs.Hex.{IsBytes, decode_of, encode_lower, encode_with, lower_digits}
 use Rattle.hex.specs.declared.error.FromHexError.{FromHexError}
 use Rattle.hex.proofs.HexLemmas.{decode_of-encode_lower, decode_of-same, length-encode_with}
@@ -111,3 +112,23 @@ encode_lower-refused text bytes e h refused same =
 -- the text of some octets is not empty where they are not
 pub length-encode_lower : (bytes : List ℕ) → length (encode_lower bytes) ≡ 2 * length bytes
 length-encode_lower bytes = length-encode_with lower_digits bytes
+
+-- ---- texts written part by part
+
+encode_lower-append : (a b : List ℕ) → encode_lower (a ++ b) ≡ encode_lower a ++ encode_lower b
+unfolding encode_with
+encode_lower-append [] b = refl
+encode_lower-append (x ∷ a) b = rw (encode_lower-append a b) refl
+
+-- one part more is written
+pub hex_step : (out one whole front back rest : List ℕ) → rest ≡ front ++ back → one ≡ out ++ encode_lower front → out ++ encode_lower rest ≡ whole
+    → one ++ encode_lower back ≡ whole
+hex_step out one whole front back rest parts written inv =
+    let split : encode_lower rest ≡ encode_lower front ++ encode_lower back = ap encode_lower parts ∙ encode_lower-append front back in
+    rw (written, append_assoc) (rw split at inv)
+
+-- no part is left
+pub hex_done : (out whole rest : List ℕ) → length rest ≡ 0 → out ++ encode_lower rest ≡ whole → out ≡ whole
+unfolding encode_with
+hex_done out whole [] none inv = sym (append-nil out) ∙ inv
+hex_done out whole (o ∷ os) none inv = absurd (omega arith)

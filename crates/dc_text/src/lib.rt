@@ -1,5 +1,5 @@
-//! The text that scripts and transcripts are made of: the lines of a source, decimal numbers, and octets in hexadecimal
-//! digits.
+//! The text that scripts and transcripts are made of: the lines of a source, read; words, decimal numbers and octets in
+//! hexadecimal digits, read and written.
 #![tactic(auto)]
 
 mod hex_text;
@@ -7,7 +7,9 @@ mod lines;
 mod numbers;
 #[cfg(test)]
 mod tests;
+mod writing;
 
 pub use hex_text::hex_octets;
 pub use lines::{LineErr, LineReader, MAX_INPUT, MAX_LINE, MAX_READ};
 pub use numbers::decimal;
+pub use writing::{write_decimal, write_hex, write_text};

@@ -140,6 +140,22 @@ fn decimal_numbers(rt: HostRuntime) {
 }
 
 #[test]
+fn texts_are_written(rt: HostRuntime) -> Result<(), Fail> {
+    let mut text = Octets::new(rt.alloc());
+    write_text(&mut text, "at ")?;
+    write_decimal(&mut text, 0)?;
+    write_decimal(&mut text, u64::MAX)?;
+    write_hex(&mut text, &[0xa0; 65])?;
+    assert_eq!(rt; text.len(), 3 + 21 + 130);
+    assert_eq!(rt;
+        &text.as_slice()[..28],
+        b"at 018446744073709551615a0a0".as_slice()
+    );
+    assert_eq!(rt; &text.as_slice()[150..], b"a0a0".as_slice());
+    Ok(())
+}
+
+#[test]
 fn octets_in_hex(rt: HostRuntime) -> Result<(), Fail> {
     let rows: [(&[u8], Option<&[u8]>); 8] = [
         (b"00", Some(b"\x00")),

@@ -36,7 +36,7 @@ scripted_good (event.Report node id) s = tt
 scripted_good (event.Deny node on) s = tt
 scripted_good (event.Ask node what) s = tt
 scripted_good event.ScgFail s = tt
-scripted_good (event.Submit id dir sdu) s = record { some = s.1.1; most = s.1.2; bytes = s.1.0 }
+scripted_good (event.Submit id dir sdu) s = s.1
 scripted_good (event.Step link index) s = tt
 scripted_good (event.Lose link index) s = tt
 scripted_good (event.Again link index) s = tt

@@ -18,7 +18,7 @@ use Rattle.script_text.specs.Scripts.{IsScriptHeader}
 use Rattle.script_text.specs.declared.scripted.Scripted.{Scripted}
 use Rattle.script_text.specs.declared.scripted.Scripted.TheVariants.{One, Drain}
 use Rattle.dc_world.specs.Run.{Kept, IsGood, is_built, entry_of, entries_from, counted, IsWithin}
-use Rattle.dc_top.specs.Script.{HasRead, HasBadHeader, HasBadLine, HasLine, HasUnbuiltLine, IsBuilt, IsInRange, IsTaken, IsTooLong, IsUnreadHeader, IsUnreadLine, line_text, most_line, most_octets}
+use Rattle.dc_top.specs.Script.{HasRead, HasBadHeader, HasBadLine, HasLine, HasUnbuiltLine, IsBuilt, IsInRange, IsTaken, IsTooLong, IsUnreadHeader, IsUnreadLine, script_line, most_line, most_octets}
 use Rattle.dc_top.specs.Steps.{policies, start, kept_after_all, events_text, AreEventsOf, AreBegun, HasRun, HasStoppedIn, HasEndedAt, IsUnbuilt, IsUnwritten}
 use Rattle.dc_top.specs.Run.{AreFirstEntriesOf, IsTranscriptOf, no_lines, one_more, IsFrontOf, whole, part, IsNextOf, next, RanTo, RanUpTo}
 use Rattle.dc_top.specs.Ended.{HasEnded, IsAhead, IsCutInEvent, PassesLimit}
@@ -59,7 +59,7 @@ so_far_first h k old new good is written = record {
   written = subst (Appends old new) (sym (transcript_text-none h)) written;
 }
 
-unbuilt_line : (line : Scripted) (rest : List ℕ) → IsInRange line → line_text line ≡ line_of rest → IsUnbuilt line → HasUnbuiltLine rest
+unbuilt_line : (line : Scripted) (rest : List ℕ) → IsInRange line → script_line line ≡ line_of rest → IsUnbuilt line → HasUnbuiltLine rest
 unbuilt_line (One e) rest in_range is unbuilt = record { event = e; in_range = in_range; spelled = sym is; unbuilt = unbuilt }
 unbuilt_line Drain rest in_range is unbuilt = absurd unbuilt
 
@@ -126,7 +126,7 @@ module _ (h : Header) (lines : List Scripted) (k : Kept) (old mid : Option (List
 
   -- ---- one more line
 
-  module _ (line : Scripted) (in_range : IsInRange line) (short : length (line_text line) ≤ most_line) where
+  module _ (line : Scripted) (in_range : IsInRange line) (short : length (script_line line) ≤ most_line) where
     taken_more : IsBuilt line → AllByRecursion IsTaken (lines ++ line ∷ [])
     taken_more built = each_append IsTaken lines (line ∷ []) s.taken (record { in_range = in_range; built = built; short = short }, tt)
 
@@ -283,7 +283,7 @@ module _ (h : Header) (lines : List Scripted) (k : Kept) (old mid : Option (List
     stopped_in status.WriteFault input rest left new read near p =
         inr (cut_in_event input rest left new p.before p.event p.stopped.0 read near p.built p.begun p.next p.stopped.1 p.stopped.2)
 
-    unbuilt_at : (input rest : List ℕ) (left new : Option (List ℕ)) → (read : HasRead input h lines rest) → HasLine (length read.taken) rest → line_text line ≡ line_of rest
+    unbuilt_at : (input rest : List ℕ) (left new : Option (List ℕ)) → (read : HasRead input h lines rest) → HasLine (length read.taken) rest → script_line line ≡ line_of rest
         → IsUnbuilt line → Appends mid new [] → HasEnded input status.NotBuilt left old new
     unbuilt_at input rest left new read there is unbuilt none = (
       transcript_text h (entries h s.events),
@@ -293,22 +293,22 @@ module _ (h : Header) (lines : List Scripted) (k : Kept) (old mid : Option (List
 
     -- the line was taken, and was not run to its end
     pub ended_at : (st : Status) (input held : List ℕ) (now now' left new : Option (List ℕ)) (passed passed' : ℕ) → IsAtRest input h lines now passed
-        → GivesLine now now' (line_text line) → IfSome now (λ octets. passed' ≡ passed + span octets) → passed' ≤ most_octets → IsAtRest input h (lines ++ line ∷ []) now' passed' → now' ≡ prepend_known held left → length held ≤ 65536
+        → GivesLine now now' (script_line line) → IfSome now (λ octets. passed' ≡ passed + span octets) → passed' ≤ most_octets → IsAtRest input h (lines ++ line ∷ []) now' passed' → now' ≡ prepend_known held left → length held ≤ 65536
         → HasEndedAt st line k mid new → HasEnded input st left old new
     ended_at st input held now now' left new passed passed' before gives counted small after is few ended = by_status st ended
       where
         near : IsAhead after.rest left
         near = not_far held left after.rest (sym is ∙ after.told) few
 
-        known : GivesLine (Some before.rest) now' (line_text line)
-        known = subst (λ o. GivesLine o now' (line_text line)) before.told gives
+        known : GivesLine (Some before.rest) now' (script_line line)
+        known = subst (λ o. GivesLine o now' (script_line line)) before.told gives
 
         summed : passed' ≡ passed + span before.rest
         summed = subst (λ o. IfSome o (λ octets. passed' ≡ passed + span octets)) before.told counted
 
         there : HasLine (length before.read.taken) before.rest
         there =
-            let is_long : length (line_text line) ≡ length (line_of before.rest) = ap (λ (l : List ℕ). length l) known.1 in
+            let is_long : length (script_line line) ≡ length (line_of before.rest) = ap (λ (l : List ℕ). length l) known.1 in
             record { there = known.0; short = omega (arith, is_long); total = omega (arith, summed, before.counted) }
 
         by_status : (st : Status) → HasEndedAt st line k mid new → HasEnded input st left old new
@@ -369,8 +369,8 @@ after_header h k passed all now old new good is written gives counted short = re
 }
 
 module _ (k : Kept) (number passed : ℕ) (all now old mid : Option (List ℕ)) (a : IsAfterLines k number passed all now old mid) where
-  pub after_line : (line : Scripted) (k' : Kept) (es : List Event) (passed' : ℕ) (now' new : Option (List ℕ)) → IsInRange line → length (line_text line) ≤ most_line → IsBuilt line
-      → AreEventsOf line k es → HasRun k es k' mid new → GivesLine now now' (line_text line) → IfSome now (λ octets. passed' ≡ passed + span octets) → passed' ≤ most_octets
+  pub after_line : (line : Scripted) (k' : Kept) (es : List Event) (passed' : ℕ) (now' new : Option (List ℕ)) → IsInRange line → length (script_line line) ≤ most_line → IsBuilt line
+      → AreEventsOf line k es → HasRun k es k' mid new → GivesLine now now' (script_line line) → IfSome now (λ octets. passed' ≡ passed + span octets) → passed' ≤ most_octets
       → IsAfterLines k' (number + 1) passed' all now' old new
   after_line line k' es passed' now' new in_range short built all' run gives counted few = record {
     header = a.header;
@@ -390,8 +390,8 @@ module _ (k : Kept) (number passed : ℕ) (all now old mid : Option (List ℕ)) 
     pub no_line : (st : Status) → IsUnreadLine st number now passed left → HasEnded input st left old mid
     no_line st un = unread_line a.header a.lines k old mid a.so_far st input now left passed number (at_rest all input a.header a.lines now passed told a.reads) a.counted un
 
-    pub end_in_line : (st : Status) (line : Scripted) (held : List ℕ) (passed' : ℕ) (new : Option (List ℕ)) → IsInRange line → length (line_text line) ≤ most_line
-        → GivesLine now (prepend_known held left) (line_text line) → IfSome now (λ octets. passed' ≡ passed + span octets) → passed' ≤ most_octets → length held ≤ 65536
+    pub end_in_line : (st : Status) (line : Scripted) (held : List ℕ) (passed' : ℕ) (new : Option (List ℕ)) → IsInRange line → length (script_line line) ≤ most_line
+        → GivesLine now (prepend_known held left) (script_line line) → IfSome now (λ octets. passed' ≡ passed + span octets) → passed' ≤ most_octets → length held ≤ 65536
         → HasEndedAt st line k mid new → HasEnded input st left old new
     end_in_line st line held passed' new in_range short gives counted small few stopped =
         let reads = reads_more all a.header a.lines line now (prepend_known held left) passed passed' a.reads gives counted small in

@@ -11,8 +11,8 @@ use Rattle.dc_base.specs.declared.events.Header.{Header}
 use Rattle.dc_text.specs.Lines.{GivesLine, is_line_feed, line_of, rest_of, span}
 use Rattle.transcript.specs.Text.{header_text, ended}
 use Rattle.script_text.specs.declared.scripted.Scripted.{Scripted}
-use Rattle.dc_top.specs.Script.{HasRead, line_text, script_text, most_octets}
-use Rattle.dc_top.specs.Ended.{IsAhead, most_ahead}
+use Rattle.dc_top.specs.Script.{HasRead, script_line, script_text, most_octets}
+use Rattle.dc_top.specs.Ended.{IsAhead, most_read}
 use Rattle.dc_top.proofs.Texts.{script_text-none, script_text-next, script_long}
 
 -- the octets of the first line, with its LF if it has one
@@ -72,7 +72,7 @@ read_first input h passed is counted short =
     }
 
 read_more : (input : List ℕ) (h : Header) (lines : List Scripted) (line : Scripted) (rest : List ℕ) (old new : ℕ) → ReadsTo input h lines rest old → rest ≢ []
-    → line_text line ≡ line_of rest → new ≡ old + span rest → new ≤ most_octets → ReadsTo input h (lines ++ line ∷ []) (rest_of rest) new
+    → script_line line ≡ line_of rest → new ≡ old + span rest → new ≤ most_octets → ReadsTo input h (lines ++ line ∷ []) (rest_of rest) new
 read_more input h lines line rest old new r some is counted short =
     let f = first_of_rest rest in
     let before = r.read.taken in
@@ -119,21 +119,21 @@ reads_first (Some input) now h passed gives counted short =
     let r = read_first input h passed gives.1 counted short in record { rest = rest_of input; told = gives.2; read = r.read; counted = r.counted }
 
 reads_next : (input : List ℕ) (h : Header) (lines : List Scripted) (line : Scripted) (now now' : Option (List ℕ)) (old new : ℕ) → (r : IsAtRest input h lines now old)
-    → GivesLine (Some r.rest) now' (line_text line) → new ≡ old + span r.rest → new ≤ most_octets → IsAtRest input h (lines ++ line ∷ []) now' new
+    → GivesLine (Some r.rest) now' (script_line line) → new ≡ old + span r.rest → new ≤ most_octets → IsAtRest input h (lines ++ line ∷ []) now' new
 reads_next input h lines line now now' old new r gives counted short =
     let more = read_more input h lines line r.rest old new (record { read = r.read; counted = r.counted }) gives.0 gives.1 counted short in
     record { rest = rest_of r.rest; told = gives.2; read = more.read; counted = more.counted }
 
 pub reads_more : (all : Option (List ℕ)) (h : Header) (lines : List Scripted) (line : Scripted) (now now' : Option (List ℕ)) (old new : ℕ) → ReadsOn all h lines now old
-    → GivesLine now now' (line_text line) → IfSome now (λ octets. new ≡ old + span octets) → new ≤ most_octets → ReadsOn all h (lines ++ line ∷ []) now' new
+    → GivesLine now now' (script_line line) → IfSome now (λ octets. new ≡ old + span octets) → new ≤ most_octets → ReadsOn all h (lines ++ line ∷ []) now' new
 reads_more None h lines line now now' old new r gives counted short = tt
 reads_more (Some input) h lines line now now' old new r gives counted short =
     reads_next input h lines line now now' old new r
-    (subst (λ o. GivesLine o now' (line_text line)) r.told gives)
+    (subst (λ o. GivesLine o now' (script_line line)) r.told gives)
     (subst (λ o. IfSome o (λ octets. new ≡ old + span octets)) r.told counted) short
 
 -- what was held and not handed out is one read at most
-pub not_far : (held : List ℕ) (left : Option (List ℕ)) (rest : List ℕ) → prepend_known held left ≡ Some rest → length held ≤ most_ahead → IsAhead rest left
+pub not_far : (held : List ℕ) (left : Option (List ℕ)) (rest : List ℕ) → prepend_known held left ≡ Some rest → length held ≤ most_read → IsAhead rest left
 not_far held None rest is few = absurd (none-some rest is)
 not_far held (Some xs) rest is few =
     let n : length (held ++ xs) ≡ length rest = ap (λ (l : List ℕ). length l) (same_Some (held ++ xs) rest is) in

@@ -6,13 +6,13 @@ use Rattle.std.proofs.lemmas.Grind.{flat_map-append}
 use Rattle.dc_base.specs.declared.events.Header.{Header}
 use Rattle.dc_base.specs.declared.events.Line.{Line}
 use Rattle.transcript.specs.Text.{header_text, ended, mark, lines_text}
-use Rattle.transcript.specs.Text.{line_text as transcript_line}
+use Rattle.transcript.specs.Text.{line_text}
 use Rattle.transcript.specs.Transcript.{Entry, entry_lines, transcript_text}
 use Rattle.script_text.specs.declared.scripted.Scripted.{Scripted}
-use Rattle.dc_top.specs.Script.{line_text, script_text}
+use Rattle.dc_top.specs.Script.{script_line, script_text}
 
 pub lines_text-append : (ls ms : List Line) → lines_text (ls ++ ms) ≡ lines_text ls ++ lines_text ms
-lines_text-append ls ms = flat_map-append (λ l. ended (mark l ++ transcript_line l)) ls ms
+lines_text-append ls ms = flat_map-append (λ l. ended (mark l ++ line_text l)) ls ms
 
 -- the text of entries
 abbrev pub entries_text : List Entry → List ℕ
@@ -32,19 +32,19 @@ transcript_text-none h = append-nil (ended (header_text h))
 pub script_text-none : (h : Header) → script_text h [] ≡ ended (header_text h)
 script_text-none h = append-nil (ended (header_text h))
 
-pub script_text-next : (h : Header) (ls : List Scripted) (l : Scripted) → script_text h (ls ++ l ∷ []) ≡ script_text h ls ++ ended (line_text l)
+pub script_text-next : (h : Header) (ls : List Scripted) (l : Scripted) → script_text h (ls ++ l ∷ []) ≡ script_text h ls ++ ended (script_line l)
 script_text-next h ls l =
-    let f : Scripted → List ℕ = λ l. ended (line_text l) in
+    let f : Scripted → List ℕ = λ l. ended (script_line l) in
     ap (λ x. ended (header_text h) ++ x) (flat_map-append f ls (l ∷ []) ∙ ap (λ (xs : List ℕ). flat_map f ls ++ xs) (append-nil (f l)))
     ∙ sym (append_assoc (ended (header_text h)) (flat_map f ls) (f l))
 
 -- each line has its LF
-lines_long : (ls : List Scripted) → length ls ≤ length (flat_map (λ l. ended (line_text l)) ls)
+lines_long : (ls : List Scripted) → length ls ≤ length (flat_map (λ l. ended (script_line l)) ls)
 lines_long [] = omega arith
 lines_long (l ∷ ls) =
     let rest = lines_long ls in
-    omega (arith, rest, length-append (ended (line_text l)) (flat_map (λ l. ended (line_text l)) ls), length-append (line_text l) (10 ∷ []))
+    omega (arith, rest, length-append (ended (script_line l)) (flat_map (λ l. ended (script_line l)) ls), length-append (script_line l) (10 ∷ []))
 
 pub script_long : (h : Header) (ls : List Scripted) → length ls + 1 ≤ length (script_text h ls)
 script_long h ls =
-    omega (arith, lines_long ls, length-append (ended (header_text h)) (flat_map (λ l. ended (line_text l)) ls), length-append (header_text h) (10 ∷ []))
+    omega (arith, lines_long ls, length-append (ended (header_text h)) (flat_map (λ l. ended (script_line l)) ls), length-append (header_text h) (10 ∷ []))

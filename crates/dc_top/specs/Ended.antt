@@ -48,14 +48,14 @@ abbrev pub IsRunOfFront : List ℕ → List ℕ → Type 0
 IsRunOfFront input text = (text ≡ []) ⊎ ((rest : List ℕ) × RanTo IsFrontOf input rest text)
 
 -- how many octets are read at a time
-abbrev pub most_ahead : ℕ
-most_ahead = 65536
+abbrev pub most_read : ℕ
+most_read = 65536
 
 -- past the octets before this rest at most one read was taken from the source
 pub record IsAhead (rest : List ℕ) (left : Option (List ℕ)) : Type 0 where
   pub unread : List ℕ
   pub told : left ≡ Some unread
-  pub few : length rest ≤ most_ahead + length unread
+  pub few : length rest ≤ most_read + length unread
 
 -- a front of the line of the header was put out, and no line after it was needed
 pub record IsCutInHeader (input : List ℕ) (left old new : Option (List ℕ)) : Type 0 where

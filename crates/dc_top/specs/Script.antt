@@ -22,13 +22,13 @@ abbrev pub most_line : ℕ
 most_line = 20000
 
 -- a line of a script after its header, without its LF
-abbrev pub line_text : Scripted → List ℕ
-line_text (One e) = event_text e
-line_text Drain = codes "drain"
+abbrev pub script_line : Scripted → List ℕ
+script_line (One e) = event_text e
+script_line Drain = codes "drain"
 
 -- a header and the lines after it, each with its LF
 abbrev pub script_text : Header → List Scripted → List ℕ
-script_text h lines = ended (header_text h) ++ flat_map (λ l. ended (line_text l)) lines
+script_text h lines = ended (header_text h) ++ flat_map (λ l. ended (script_line l)) lines
 
 -- the parts of a line are in their ranges
 abbrev pub IsInRange : Scripted → Type 0
@@ -44,7 +44,7 @@ IsBuilt Drain = ⊤
 pub record IsTaken (line : Scripted) : Type 0 where
   pub in_range : IsInRange line
   pub built : IsBuilt line
-  pub short : length (line_text line) ≤ most_line
+  pub short : length (script_line line) ≤ most_line
 
 -- octets begin with a header and these lines, and then the rest comes; the last line may lack its LF, with no rest then
 pub record HasRead (input : List ℕ) (h : Header) (lines : List Scripted) (rest : List ℕ) : Type 0 where

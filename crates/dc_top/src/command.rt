@@ -90,6 +90,6 @@ pub fn run_command<S: Source, K: Sink, E: Sink>(
     } else {
         write_form(alloc, words, out)
     };
-    write_fault(status, err);
+    write_fault(alloc, status, err);
     status
 }

@@ -9,6 +9,7 @@ mod stepping;
 mod writing;
 
 pub use command::run_command;
+pub use faults::write_fault;
 
 #[cfg(test)]
 mod tests;

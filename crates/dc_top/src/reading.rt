@@ -7,8 +7,8 @@ ghost use Rattle.dc_outside.specs.Faults.{Rose};
 ghost use Rattle.dc_text.specs.Lines.{GivesLine, input, span};
 ghost use Rattle.transcript.specs.Text.{header_text};
 ghost use Rattle.script_text.specs.Scripts.{IsScriptHeader};
-ghost use Rattle.dc_top.specs.Script.{IsInRange, IsUnread, IsUnreadHeader, IsUnreadLine, line_text, most_line, most_octets};
-ghost use Rattle.dc_top.specs.Ended.{most_ahead};
+ghost use Rattle.dc_top.specs.Script.{IsInRange, IsUnread, IsUnreadHeader, IsUnreadLine, script_line, most_line, most_octets};
+ghost use Rattle.dc_top.specs.Ended.{most_read};
 
 use dc_base::{Header, Octets, Status};
 use dc_outside::Source;
@@ -25,7 +25,7 @@ fn next_line<S: Source>(reader: &mut LineReader, src: &mut S) -> Result<Option<O
     ensures total { reader.new.passed ≤ most_octets }
     ensures passed { IfOk result (λ found. IfSome found (λ _. IfSome (input reader.old (S.left src.old))
         (λ octets. reader.new.passed ≡ reader.old.passed + span octets))) }
-    ensures ahead { length reader.new.held ≤ most_ahead }
+    ensures ahead { length reader.new.held ≤ most_read }
     ensures unread { IfErr result (λ s. IsUnread s (input reader.old (S.left src.old)) reader.old.passed (S.left src.new)) }
     ensures kept { OnOk result (S.fault_count src.new ≡ S.fault_count src.old) }
     ensures fault { IsErrOf result Status.ReadFault → Rose (S.fault_count src.old) (S.fault_count src.new) }
@@ -47,7 +47,7 @@ pub fn take_header<S: Source>(reader: &mut LineReader, src: &mut S) -> Result<He
     ensures total { reader.new.passed ≤ most_octets }
     ensures passed { OnOk result (IfSome (input reader.old (S.left src.old))
         (λ octets. reader.new.passed ≡ reader.old.passed + span octets)) }
-    ensures ahead { length reader.new.held ≤ most_ahead }
+    ensures ahead { length reader.new.held ≤ most_read }
     ensures unread { IfErr result (λ s. IsUnreadHeader s (input reader.old (S.left src.old)) reader.old.passed (S.left src.new)) }
     ensures kept { OnOk result (S.fault_count src.new ≡ S.fault_count src.old) }
     ensures fault { IsErrOf result Status.ReadFault → Rose (S.fault_count src.old) (S.fault_count src.new) }
@@ -70,14 +70,14 @@ pub fn take_line<S: Source>(
     number: u32,
 ) -> Result<Option<Scripted>, Status>
     ensures in_range { IfOk result (λ found. IfSome found (λ line. IsInRange line)) }
-    ensures short { IfOk result (λ found. IfSome found (λ line. length (line_text line) ≤ most_line)) }
+    ensures short { IfOk result (λ found. IfSome found (λ line. length (script_line line) ≤ most_line)) }
     ensures line { IfOk result (λ found. IfSome found (λ line.
-        GivesLine (input reader.old (S.left src.old)) (input reader.new (S.left src.new)) (line_text line))) }
+        GivesLine (input reader.old (S.left src.old)) (input reader.new (S.left src.new)) (script_line line))) }
     ensures end { IfOk result (λ found. IfNone found (IsAtEnd (input reader.old (S.left src.old)))) }
     ensures total { reader.new.passed ≤ most_octets }
     ensures passed { IfOk result (λ found. IfSome found (λ _. IfSome (input reader.old (S.left src.old))
         (λ octets. reader.new.passed ≡ reader.old.passed + span octets))) }
-    ensures ahead { length reader.new.held ≤ most_ahead }
+    ensures ahead { length reader.new.held ≤ most_read }
     ensures unread { IfErr result (λ s. IsUnreadLine s number (input reader.old (S.left src.old)) reader.old.passed (S.left src.new)) }
     ensures kept { OnOk result (S.fault_count src.new ≡ S.fault_count src.old) }
     ensures fault { IsErrOf result Status.ReadFault → Rose (S.fault_count src.old) (S.fault_count src.new) }

@@ -8,7 +8,7 @@ ghost use Rattle.dc_top.specs.Ended.{HasEnded};
 use crate::reading::{take_header, take_line};
 use crate::stepping::run_line;
 use crate::writing::write_first;
-use dc_base::{Header, Status};
+use dc_base::{Header, Octets, Status};
 use dc_outside::{Sink, Source};
 use dc_text::LineReader;
 use dc_world::World;
@@ -26,7 +26,8 @@ pub fn run_script<S: Source, K: Sink>(alloc: Global, src: &mut S, out: &mut K) -
 {
     let mut reader = LineReader::new(alloc);
     let header = take_header(&mut reader, src)?;
-    write_first(alloc, &header, out)?;
+    let mut text = Octets::new(alloc);
+    write_first(&mut text, &header, out)?;
     let Ok(mut world) = World::new(alloc, header.alg, header.used, &header.root) else {
         return Err(Status::Memory);
     };
@@ -34,7 +35,7 @@ pub fn run_script<S: Source, K: Sink>(alloc: Global, src: &mut S, out: &mut K) -
         let Some(line) = take_line(alloc, &mut reader, src, number)? else {
             return Ok(());
         };
-        run_line(alloc, &mut world, &line, out)?;
+        run_line(&mut world, &line, &mut text, out)?;
     }
     Err(Status::TooLong)
 }

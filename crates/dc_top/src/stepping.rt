@@ -10,11 +10,10 @@ ghost use Rattle.dc_top.specs.Script.{IsInRange, IsBuilt};
 ghost use Rattle.dc_top.specs.Steps.{AreEventsOf, AreFirstSteps, HasEndedAt, HasRun, HasStopped, HasStoppedDraining};
 
 use crate::writing::write_lines;
-use dc_base::{Event, Status};
+use dc_base::{Event, Octets, Status};
 use dc_outside::Sink;
 use dc_world::{Counts, World, is_built};
 use script_text::Scripted;
-use std::alloc::Global;
 
 /// How many routing policies there are.
 const POLICIES: usize = 2;
@@ -37,11 +36,11 @@ fn is_within(counts: Counts) -> bool
         && counts.octets <= MAX_FLIGHT_OCTETS
 }
 
-/// One event, with its text. Past a limit nothing is written.
+/// One event, with its text, which is made in the buffer. Past a limit nothing is written.
 fn run_event<K: Sink>(
-    alloc: Global,
     world: &mut World,
     event: &Event,
+    text: &mut Octets,
     out: &mut K,
 ) -> Result<(), Status>
     requires good { IsGood event.now }
@@ -59,11 +58,11 @@ fn run_event<K: Sink>(
     if !is_within(world.counts()) {
         return Err(Status::TooLong);
     }
-    write_lines(alloc, &world.lines().as_slice()[before..], out)
+    write_lines(text, &world.lines().as_slice()[before..], out)
 }
 
 /// Steps of the first flight on the first link on which one stands, until none stands on any.
-fn drain<K: Sink>(alloc: Global, world: &mut World, out: &mut K) -> Result<(), Status>
+fn drain<K: Sink>(world: &mut World, text: &mut Octets, out: &mut K) -> Result<(), Status>
     requires { IsWithin (counted world.old.lines) }
     ensures ran { OnOk result ((es : List Event) × AreFirstSteps world.old.state es
         × HasRun world.old es world.new (K.put_out out.old) (K.put_out out.new)) }
@@ -73,16 +72,16 @@ fn drain<K: Sink>(alloc: Global, world: &mut World, out: &mut K) -> Result<(), S
     ensures fault { IsErrOf result Status.WriteFault → Rose (K.fault_count out.old) (K.fault_count out.new) }
 {
     while let Some(link) = world.first_nonempty() {
-        run_event(alloc, world, &Event::Step { link, index: 0 }, out)?;
+        run_event(world, &Event::Step { link, index: 0 }, text, out)?;
     }
     Ok(())
 }
 
 /// A line, run to its end.
 pub fn run_line<K: Sink>(
-    alloc: Global,
     world: &mut World,
     line: &Scripted,
+    text: &mut Octets,
     out: &mut K,
 ) -> Result<(), Status>
     requires in_range { IsInRange line.now }
@@ -95,12 +94,12 @@ pub fn run_line<K: Sink>(
     ensures fault { IsErrOf result Status.WriteFault → Rose (K.fault_count out.old) (K.fault_count out.new) }
 {
     match line {
-        Scripted::Drain => drain(alloc, world, out),
+        Scripted::Drain => drain(world, text, out),
         Scripted::One(event) => {
             if !is_built(event) {
                 return Err(Status::NotBuilt);
             }
-            run_event(alloc, world, event, out)
+            run_event(world, event, text, out)
         }
     }
 }

@@ -26,10 +26,10 @@ use Rattle.script_text.specs.declared.spelling.Command.{Command}
 use Rattle.script_text.specs.declared.spelling.Command.TheVariants as command
 use Rattle.script_text.specs.Grammar.{Kind, Allows, kinds, fields, command_word, IsFault, IsFaultOf, IsColumn, IsHeaderColumn, header_kinds}
 use Rattle.script_text.specs.Scripts.{IsScripted, IsScriptHeader, IsLineOf, event_fields}
-use Rattle.script_text.specs.Places.{fields_from, ForColumn}
+use Rattle.script_text.specs.Places.{ForColumn}
 use Rattle.script_text.specs.declared.scripted.LineFault.{LineFault}
 use Rattle.script_text.specs.declared.scripted.LineFault.TheVariants as fault
-use Rattle.script_text.proofs.Whole.{spaced-event_fields, fields_from-start}
+use Rattle.script_text.proofs.Whole.{spaced-event_fields}
 use Rattle.script_text.proofs.Spaceless.{is_spaceless, is_spaceless-append, Spaceless, fields-spaced, decimal_is_spaceless, octets_are_spaceless, node_is_spaceless, link_is_spaceless}
 
 -- the fields are of these sorts, one by one
@@ -258,16 +258,16 @@ is_command (event.Submit id Ul sdu) h = record {
   rest = decimal id ∷ encode_lower sdu ∷ [];
   is = refl;
   other = λ e. cc;
-  sorts = ((id, h.0.0, h.0.1, refl), ((sdu, h.1.0, h.1.1, h.1.2, refl), tt));
-  spaceless = (refl, (id_below id h.0.1, (octets_are_spaceless sdu h.1.0, tt)));
+  sorts = ((id, h.0.0, h.0.1, refl), ((sdu, h.1.bytes, h.1.some, h.1.most, refl), tt));
+  spaceless = (refl, (id_below id h.0.1, (octets_are_spaceless sdu h.1.bytes, tt)));
 }
 is_command (event.Submit id Dl sdu) h = record {
   which = command.Dl;
   rest = decimal id ∷ encode_lower sdu ∷ [];
   is = refl;
   other = λ e. cc;
-  sorts = ((id, h.0.0, h.0.1, refl), ((sdu, h.1.0, h.1.1, h.1.2, refl), tt));
-  spaceless = (refl, (id_below id h.0.1, (octets_are_spaceless sdu h.1.0, tt)));
+  sorts = ((id, h.0.0, h.0.1, refl), ((sdu, h.1.bytes, h.1.some, h.1.most, refl), tt));
+  spaceless = (refl, (id_below id h.0.1, (octets_are_spaceless sdu h.1.bytes, tt)));
 }
 is_command (event.Step link index) h = record {
   which = command.Step;
@@ -330,10 +330,10 @@ outside_of (fault.Column c) line h = λ s is. no_column s line is c h
 outside_of fault.Memory line h = tt
 
 -- a first word that is no command
-pub outside_at_word : (line word : List ℕ) (after : ℕ) → fields_from line 0 ≡ word ∷ fields_from line after
+pub outside_at_word : (line word : List ℕ) (rest : List (List ℕ)) → fields line ≡ word ∷ rest
     → ((k : Command) → word ≡ command_word k → ⊥) → (s : Scripted) → IsLineOf s line → ⊥
-outside_at_word line word after found none s is =
-    no_column s line is 1 (subst (λ (fs : List (List ℕ)). IsFaultOf fs 1) (sym found ∙ fields_from-start line) (inl (none, refl)))
+outside_at_word line word rest found none s is =
+    no_column s line is 1 (subst (λ (fs : List (List ℕ)). IsFaultOf fs 1) (sym found) (inl (none, refl)))
 
 -- ---- headers
 

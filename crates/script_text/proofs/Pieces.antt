@@ -2,8 +2,6 @@
 use Rattle.std.proofs.Common.{◌≡◌, ℕ, ◌+◌, ◌/◌, ◌%◌, ◌<◌, ◌≤◌, List, [], ◌∷◌, ◌++◌, length, map, drop, slice_index, refl, sym, ap, ◌∙◌}
 use Rattle.std.specs.List.{flat_map, join_with_byte}
 use Rattle.std.proofs.lemmas.List.{append_assoc, append-nil, drop_all}
-use Rattle.hex.specs.Hex.{encode_lower, encode_with, lower_digits}
-use Rattle.hex.proofs.Pairs.{encode_with-drop}
 
 -- each field but the first stands behind a separator
 joined_more : {A : Type 0} (text : A → List ℕ) (c : ℕ) (x : List ℕ) (xs : List A)
@@ -37,20 +35,3 @@ joined_two_done text c old one out x y xs i first h inv =
     let all = pieces_done (λ z. c ∷ text z) out (one ++ flat_map (λ z. c ∷ text z) xs) xs i h inv in
     let last = joined_more text c y xs in
     all ∙ (ap (λ (l : List ℕ). l ++ flat_map (λ z. c ∷ text z) xs) first ∙ rw (append_assoc, append_assoc, last) refl)
-
--- one octet more is written
-pub octet_step : (out one two whole xs : List ℕ) (i : ℕ) → i < length xs
-    → one ≡ out ++ slice_index lower_digits (slice_index xs i / 16) ∷ []
-    → two ≡ one ++ slice_index lower_digits (slice_index xs i % 16) ∷ []
-    → out ++ encode_lower (drop i xs) ≡ whole
-    → two ++ encode_lower (drop (i + 1) xs) ≡ whole
-octet_step out one two whole xs i h first second inv =
-    let rest = encode_with-drop lower_digits xs i h in
-    rw (second, first, append_assoc, append_assoc) (rw rest at inv)
-
--- every octet is written
-pub octets_done : (out whole xs : List ℕ) (i : ℕ) → length xs ≤ i → out ++ encode_lower (drop i xs) ≡ whole → out ≡ whole
-unfolding encode_with
-octets_done out whole xs i h inv =
-    let d = drop_all i xs h in
-    rw (d, append-nil) at inv

@@ -287,10 +287,10 @@ event_back event.ScgFail h =
     refl
 event_back (event.Submit id Ul octets) h =
     ap (λ (x : ℕ). event.Submit x Ul (octets_from (encode_lower octets))) (id_back id h.0.1)
-    ∙ (ap (λ (x : List ℕ). event.Submit id Ul x) (octets_back octets h.1.0))
+    ∙ (ap (λ (x : List ℕ). event.Submit id Ul x) (octets_back octets h.1.bytes))
 event_back (event.Submit id Dl octets) h =
     ap (λ (x : ℕ). event.Submit x Dl (octets_from (encode_lower octets))) (id_back id h.0.1)
-    ∙ (ap (λ (x : List ℕ). event.Submit id Dl x) (octets_back octets h.1.0))
+    ∙ (ap (λ (x : List ℕ). event.Submit id Dl x) (octets_back octets h.1.bytes))
 event_back (event.Step link index) h =
     ap (λ (x : LinkId). event.Step x (number_from (decimal index))) (link_back link)
     ∙ (ap (λ (x : ℕ). event.Step link x) (number_back index (omega (arith, h.1))))

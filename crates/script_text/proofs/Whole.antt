@@ -20,7 +20,7 @@ use Rattle.script_text.specs.declared.scripted.Scripted.{Scripted}
 use Rattle.script_text.specs.declared.scripted.Scripted.TheVariants.{One, Drain}
 use Rattle.script_text.specs.Grammar.{Kind, Exactly, root, fields, is_space, kinds, rekey_kinds, header_kinds, command_word, IsFault, IsFaultOf, IsColumn, IsHeaderColumn}
 use Rattle.script_text.specs.Scripts.{event_fields, IsFieldsOf, IsLineOf}
-use Rattle.script_text.specs.Places.{fields_from, IsFaultAt, ForColumn}
+use Rattle.script_text.specs.Places.{Left, IsFaultAt, ForColumn, fields_from}
 
 -- from its beginning on a line has all its fields
 pub fields_from-start : (line : List ℕ) → fields_from line 0 ≡ fields line
@@ -59,33 +59,35 @@ pub header_of_fields : (h : Header) (line : List ℕ)
 header_of_fields h line e = sym (spaced-fields line) ∙ ap spaced e
 
 -- a line has a field
-pub has_a_field : (line : List ℕ) → fields_from line 0 ≡ [] → ⊥
-has_a_field line e =
+pub has_a_field : (line : List ℕ) (fs : List (List ℕ)) → fs ≡ fields line → fs ≡ [] → ⊥
+has_a_field line fs whole e =
     let one = length-slice_split is_space line in
-    let none : length (fields line) ≡ 0 = ap length (sym (fields_from-start line) ∙ e) in
+    let none : length (fields line) ≡ 0 = ap length (sym whole ∙ e) in
     omega (arith, one, none)
 
 -- the fields after the first word make the line
-pub line_of_rest : (s : Scripted) (line word : List ℕ) (after : ℕ) (k : Command) → fields_from line 0 ≡ word ∷ fields_from line after
-    → word ≡ command_word k → IsFieldsOf s (command_word k ∷ fields_from line after) → IsLineOf s line
-line_of_rest s line word after k found spelled h =
-    let whole : command_word k ∷ fields_from line after ≡ fields line =
-    ap (λ (w : List ℕ). w ∷ fields_from line after) (sym spelled) ∙ (sym found ∙ fields_from-start line) in
+pub line_of_rest : (s : Scripted) (line word : List ℕ) (fs rest : List (List ℕ)) (k : Command) → fs ≡ fields line → fs ≡ word ∷ rest
+    → word ≡ command_word k → IsFieldsOf s (command_word k ∷ rest) → IsLineOf s line
+line_of_rest s line word fs rest k start found spelled h =
+    let whole : command_word k ∷ rest ≡ fields line =
+    ap (λ (w : List ℕ). w ∷ rest) (sym spelled) ∙ (sym found ∙ start) in
     line_of_fields s line (subst (IsFieldsOf s) whole h)
 
 -- a fault of the fields after the first word is the line's
-pub column_of_rest : (f : LineFault) (line word : List ℕ) (after : ℕ) (k : Command) → fields_from line 0 ≡ word ∷ fields_from line after
-    → after ≡ 0 + length word + 1 → word ≡ command_word k → IsFaultAt (kinds k (fields_from line after)) line after f
+pub column_of_rest : (f : LineFault) (line word : List ℕ) (old new : Left) (k : Command) → old.at ≡ 0 → old.fields ≡ fields line
+    → old.fields ≡ word ∷ new.fields → new.at ≡ old.at + length word + 1 → word ≡ command_word k → IsFaultAt (kinds k new.fields) new f
     → ForColumn f (IsColumn line)
-column_of_rest (fault.Column c) line word after k found moved spelled h =
-    let place : after ≡ length word + 1 = omega (arith, moved) in
-    subst (λ (fs : List (List ℕ)). IsFaultOf fs c) (sym found ∙ fields_from-start line)
-    (inr (k, spelled, subst (λ (a : ℕ). IsFault (kinds k (fields_from line after)) a (fields_from line after) c) place h))
-column_of_rest fault.Memory line word after k found moved spelled h = tt
+column_of_rest (fault.Column c) line word old new k zero start found moved spelled h =
+    let place : new.at ≡ length word + 1 = omega (arith, moved, zero) in
+    subst (λ (fs : List (List ℕ)). IsFaultOf fs c) (sym found ∙ start)
+    (inr (k, spelled, subst (λ (a : ℕ). IsFault (kinds k new.fields) a new.fields c) place h))
+column_of_rest fault.Memory line word old new k zero start found moved spelled h = tt
 
-pub header_column : (line : List ℕ) (f : LineFault) → IsFaultAt header_kinds line 0 f → ForColumn f (IsHeaderColumn line)
-header_column line (fault.Column c) h = subst (λ (fs : List (List ℕ)). IsFault header_kinds 0 fs c) (fields_from-start line) h
-header_column line fault.Memory h = tt
+pub header_column : (line : List ℕ) (left : Left) (f : LineFault) → left.at ≡ 0 → left.fields ≡ fields line → IsFaultAt header_kinds left f
+    → ForColumn f (IsHeaderColumn line)
+header_column line left (fault.Column c) zero start h =
+    subst (λ (fs : List (List ℕ)). IsFault header_kinds 0 fs c) start (subst (λ (a : ℕ). IsFault header_kinds a left.fields c) zero h)
+header_column line left fault.Memory zero start h = tt
 
 -- four fields, taken one by one
 pub four_fields : (a b c d : List ℕ) (f0 f1 f2 f3 f4 : List (List ℕ)) → f0 ≡ a ∷ f1 → f1 ≡ b ∷ f2 → f2 ≡ c ∷ f3 → f3 ≡ d ∷ f4 → f4 ≡ []
@@ -98,18 +100,17 @@ rekey_master fs rest side found same =
     let test = (bytes_eq-Decides side (codes "m")).1 same in
     rw (found, test) refl
 
-pub rekey_master_fault : (line side : List ℕ) (at after : ℕ) (f : LineFault) → side ≡ codes "m"
-    → fields_from line at ≡ side ∷ fields_from line after → after ≡ at + length side + 1 → IsFaultAt (root ∷ []) line after f
-    → IsFaultAt (rekey_kinds (fields_from line at)) line at f
-rekey_master_fault line side at after f same found moved h =
-    subst (λ (ks : List Kind). IsFaultAt ks line at f) (sym (rekey_master (fields_from line at) (fields_from line after) side found same))
-    (later (Exactly (codes "m")) (root ∷ []) side line at after f record { allowed = same; found = found; moved = moved } h)
+pub rekey_master_fault : (side : List ℕ) (old new : Left) (f : LineFault) → side ≡ codes "m"
+    → old.fields ≡ side ∷ new.fields → new.at ≡ old.at + length side + 1 → IsFaultAt (root ∷ []) new f
+    → IsFaultAt (rekey_kinds old.fields) old f
+rekey_master_fault side old new f same found moved h =
+    subst (λ (ks : List Kind). IsFaultAt ks old f) (sym (rekey_master old.fields new.fields side found same))
+    (later (Exactly (codes "m")) (root ∷ []) side old new f record { allowed = same; found = found; moved = moved } h)
 
-pub rekey_master_fields : (line side octets : List ℕ) (at after last : ℕ) → side ≡ codes "m"
-    → fields_from line at ≡ side ∷ fields_from line after → fields_from line after ≡ encode_lower octets ∷ fields_from line last
-    → fields_from line last ≡ []
-    → codes "rekey" ∷ fields_from line at ≡ codes "rekey" ∷ codes "m" ∷ encode_lower octets ∷ []
-rekey_master_fields line side octets at after last same found then end =
-    ap (λ (fs : List (List ℕ)). codes "rekey" ∷ fs)
-    (found ∙ (ap (λ (w : List ℕ). w ∷ fields_from line after) same
-    ∙ ap (λ (fs : List (List ℕ)). codes "m" ∷ fs) (then ∙ ap (λ (fs : List (List ℕ)). encode_lower octets ∷ fs) end)))
+pub rekey_master_fields : (side octets : List ℕ) (fs rest last : List (List ℕ)) → side ≡ codes "m"
+    → fs ≡ side ∷ rest → rest ≡ encode_lower octets ∷ last → last ≡ []
+    → codes "rekey" ∷ fs ≡ codes "rekey" ∷ codes "m" ∷ encode_lower octets ∷ []
+rekey_master_fields side octets fs rest last same found then end =
+    ap (λ (l : List (List ℕ)). codes "rekey" ∷ l)
+    (found ∙ (ap (λ (w : List ℕ). w ∷ rest) same
+    ∙ ap (λ (l : List (List ℕ)). codes "m" ∷ l) (then ∙ ap (λ (l : List (List ℕ)). encode_lower octets ∷ l) end)))

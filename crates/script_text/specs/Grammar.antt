@@ -9,13 +9,10 @@ use Rattle.dc_base.specs.declared.nodes.Want.{Want}
 use Rattle.dc_base.specs.declared.numbers.SnLen.{SnLen}
 use Rattle.transcript.specs.Words.{alg_word, node_word, sn_word, link_word, shape_word, want_word, state_word}
 use Rattle.dc_base.specs.declared.nodes.Node.{Node}
-use Rattle.dc_base.specs.declared.nodes.Node.TheVariants.{T, M, A, B}
-use Rattle.dc_base.specs.declared.nodes.Class.{Class}
-use Rattle.dc_base.specs.declared.nodes.Class.TheVariants.{Ctl, Feed, Air, Tun}
-use Rattle.dc_base.specs.declared.nodes.LegSet.{LegSet}
-use Rattle.dc_base.specs.declared.nodes.LegSet.TheVariants.{Split}
 use Rattle.dc_base.specs.declared.nodes.LinkId.{LinkId}
 use Rattle.dc_base.specs.declared.nodes.Shape.{Shape}
+use Rattle.dc_base.specs.Links.{is_link}
+use Rattle.dc_base.specs.Nodes.{is_secondary, is_shape}
 use Rattle.script_text.specs.declared.spelling.Command.{Command}
 use Rattle.script_text.specs.declared.spelling.Command.TheVariants as command
 
@@ -39,47 +36,6 @@ command_word command.Step = codes "step"
 command_word command.Lose = codes "lose"
 command_word command.Again = codes "again"
 command_word command.Drain = codes "drain"
-
--- a secondary node
-abbrev pub is_secondary : Node → Bool
-is_secondary T = false
-is_secondary M = false
-is_secondary A = true
-is_secondary B = true
-
--- the master and a secondary node
-abbrev pub are_master_and_secondary : Node → Node → Bool
-are_master_and_secondary M y = is_secondary y
-are_master_and_secondary x M = is_secondary x
-are_master_and_secondary x y = false
-
--- the ends of a link: for control the master and another node, for the feed the master and a secondary node, on the
--- air the terminal and another node, for a tunnel two nodes of the network
-abbrev pub joins : Class → Node → Node → Bool
-joins Ctl M T = true
-joins Ctl T M = true
-joins Ctl x y = are_master_and_secondary x y
-joins Feed x y = are_master_and_secondary x y
-joins Air T T = false
-joins Air T y = true
-joins Air x T = true
-joins Air x y = false
-joins Tun A B = true
-joins Tun B A = true
-joins Tun x y = are_master_and_secondary x y
-
--- one of the 22 links
-abbrev pub is_link : LinkId → Bool
-is_link l = joins l.class l.from l.to
-
--- only two legs are duplicated
-abbrev pub may_duplicate : LegSet → Bool → Bool
-may_duplicate (Split primary) dup = true
-may_duplicate legs dup = not dup
-
--- one of the twelve shapes
-abbrev pub is_shape : Shape → Bool
-is_shape s = may_duplicate s.legs s.dup
 
 -- ---- fields
 

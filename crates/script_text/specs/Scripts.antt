@@ -5,9 +5,11 @@ use Rattle.hex.specs.Hex.{encode_lower, IsBytes}
 use Rattle.dc_base.specs.declared.events.Event.{Event}
 use Rattle.dc_base.specs.declared.events.Event.TheVariants as event
 use Rattle.dc_base.specs.declared.events.Header.{Header}
+use Rattle.pdcp_pdu.specs.DataPdu.{IsPayload}
 use Rattle.transcript.specs.Words.{dir_word, node_word, sn_word, link_word, shape_word, want_word, state_word}
 use Rattle.transcript.specs.Text.{event_text}
-use Rattle.script_text.specs.Grammar.{is_link, is_shape, is_secondary}
+use Rattle.dc_base.specs.Links.{is_link}
+use Rattle.dc_base.specs.Nodes.{is_shape, is_secondary}
 use Rattle.script_text.specs.declared.scripted.Scripted.{Scripted}
 use Rattle.script_text.specs.declared.scripted.Scripted.TheVariants.{One, Drain}
 
@@ -18,10 +20,6 @@ IsIdentity id = (1 ≤ id) × (id ≤ 32)
 -- octets that a root key may have: 32 of them
 abbrev pub IsRoot : List ℕ → Type 0
 IsRoot octets = IsBytes octets × (length octets ≡ 32)
-
--- octets that a submission may have: 1 to 9000 of them
-abbrev pub IsPayload : List ℕ → Type 0
-IsPayload octets = IsBytes octets × (1 ≤ length octets) × (length octets ≤ 9000)
 
 -- an event that a script may have: its parts are in their ranges
 abbrev pub IsScripted : Event → Type 0

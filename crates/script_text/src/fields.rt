@@ -12,6 +12,7 @@ use dc_base::{
     Alg, Dir, DrbId, Gen, Item, KeyName, LinkId, Memory, Node, Octets, Plan, Refusal, Seq, Shape,
     SnLen, Tag, Want, Word,
 };
+use dc_text::{write_decimal, write_hex, write_text};
 
 /// A field of a line.
 #[derive(Clone, Copy)]
@@ -40,55 +41,55 @@ pub enum Field<'a> {
     Tag(Tag),
 }
 
-/// Adds a field.
+/// Writes a field.
 pub fn write_field(out: &mut Octets, field: &Field) -> Result<(), Memory>
     ensures { OnOk result (out.new ≡ out.old ++ field_text field.now) }
 {
     match *field {
-        Field::Text(text) => words::write_text(out, text),
-        Field::Number(number) => words::write_number(out, number),
-        Field::Id(id) => words::write_number(out, u32::from(id.get())),
-        Field::Root(root) => words::write_octets(out, root),
-        Field::Payload(octets) => words::write_octets(out, octets.as_slice()),
+        Field::Text(text) => write_text(out, text),
+        Field::Number(number) => write_decimal(out, u64::from(number)),
+        Field::Id(id) => write_decimal(out, u64::from(id.get())),
+        Field::Root(root) => write_hex(out, root),
+        Field::Payload(octets) => write_hex(out, octets.as_slice()),
         Field::Bits(octets) => write_bits(out, octets),
-        Field::Alg(alg) => words::write_text(out, words::of_alg(alg)),
-        Field::Dir(dir) => words::write_text(out, words::of_dir(dir)),
-        Field::Node(node) => words::write_text(out, words::of_node(node)),
-        Field::MaybeNode(node) => words::write_text(out, node.map_or("-", words::of_node)),
-        Field::Sn(length) => words::write_text(out, words::of_sn_length(length)),
+        Field::Alg(alg) => write_text(out, words::of_alg(alg)),
+        Field::Dir(dir) => write_text(out, words::of_dir(dir)),
+        Field::Node(node) => write_text(out, words::of_node(node)),
+        Field::MaybeNode(node) => write_text(out, node.map_or("-", words::of_node)),
+        Field::Sn(length) => write_text(out, words::of_sn_length(length)),
         Field::Shape(shape) => words::write_shape(out, shape),
         Field::Link(link) => words::write_link(out, link),
         Field::Key(key) => words::write_key(out, key),
-        Field::Want(want) => words::write_text(out, words::of_want(want)),
-        Field::State(on) => words::write_text(out, words::of_state(on)),
-        Field::Refusal(refusal) => words::write_text(out, words::of_refusal(refusal)),
-        Field::Cause(word) => words::write_text(out, words::of_cause(word)),
+        Field::Want(want) => write_text(out, words::of_want(want)),
+        Field::State(on) => write_text(out, words::of_state(on)),
+        Field::Refusal(refusal) => write_text(out, words::of_refusal(refusal)),
+        Field::Cause(word) => write_text(out, words::of_cause(word)),
         Field::Tag(tag) => write_tag(out, tag),
     }
 }
 
-/// Adds octets, or a dash for none.
+/// Writes octets, or a dash for none.
 fn write_bits(out: &mut Octets, octets: &Octets) -> Result<(), Memory>
     ensures { OnOk result (out.new ≡ out.old ++ octets_or_dash octets.now) }
 {
     if octets.is_empty() {
-        words::write_text(out, "-")
+        write_text(out, "-")
     } else {
-        words::write_octets(out, octets.as_slice())
+        write_hex(out, octets.as_slice())
     }
 }
 
-/// Adds a tag's COUNT, or a dash for none.
+/// Writes a tag's COUNT, or a dash for none.
 fn write_tag(out: &mut Octets, tag: Tag) -> Result<(), Memory>
     ensures { OnOk result (out.new ≡ out.old ++ or_dash decimal tag) }
 {
     match tag.get() {
-        Some(count) => words::write_number(out, count),
-        None => words::write_text(out, "-"),
+        Some(count) => write_decimal(out, u64::from(count)),
+        None => write_text(out, "-"),
     }
 }
 
-/// Adds fields with the separator between two.
+/// Writes fields with the separator between two.
 pub fn write_joined(out: &mut Octets, separator: u8, fields: &[Field]) -> Result<(), Memory>
     ensures { OnOk result (out.new ≡ out.old ++ join_with_byte separator (map field_text fields.now)) }
 {
@@ -102,14 +103,14 @@ pub fn write_joined(out: &mut Octets, separator: u8, fields: &[Field]) -> Result
     Ok(())
 }
 
-/// Adds fields with one space between two.
+/// Writes fields with one space between two.
 pub fn write_spaced(out: &mut Octets, fields: &[Field]) -> Result<(), Memory>
     ensures { OnOk result (out.new ≡ out.old ++ spaced (map field_text fields.now)) }
 {
     write_joined(out, b' ', fields)
 }
 
-/// Adds a plan: its generation, the secondary node after it, its items.
+/// Writes a plan: its generation, the secondary node after it, its items.
 pub fn write_plan(out: &mut Octets, plan: &Plan) -> Result<(), Memory>
     ensures { OnOk result (out.new ≡ out.old ++ plan_text plan.now) }
 {
@@ -121,7 +122,7 @@ pub fn write_plan(out: &mut Octets, plan: &Plan) -> Result<(), Memory>
     Ok(())
 }
 
-/// Adds an item of a plan.
+/// Writes an item of a plan.
 fn write_item(out: &mut Octets, item: Item) -> Result<(), Memory>
     ensures { OnOk result (out.new ≡ out.old ++ item_text item) }
 {
@@ -151,12 +152,12 @@ fn write_item(out: &mut Octets, item: Item) -> Result<(), Memory>
         ),
         Item::Unset { id } => {
             out.push(b'-')?;
-            words::write_number(out, u32::from(id.get()))
+            write_decimal(out, u64::from(id.get()))
         }
     }
 }
 
-/// Adds a bearer and a generation of it.
+/// Writes a bearer and a generation of it.
 pub fn write_pair(out: &mut Octets, id: DrbId, g: Gen) -> Result<(), Memory>
     ensures { OnOk result (out.new ≡ out.old ++ pair_text (id, g)) }
 {

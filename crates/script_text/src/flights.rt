@@ -7,10 +7,10 @@ ghost use Rattle.transcript.specs.Words.{spaced, octets_or_dash};
 ghost use Rattle.dc_base.specs.declared.flights.Flight.TheVariants.{Air};
 
 use crate::fields::{Field, write_pair, write_plan, write_spaced};
-use crate::words::write_text;
 use dc_base::{DrbId, Flight, Gen, Memory, Octets, Plan, Rec, Seq, StatusTransfer, Tag};
+use dc_text::write_text;
 
-/// Adds a flight.
+/// Writes a flight.
 pub fn write_flight(out: &mut Octets, flight: &Flight) -> Result<(), Memory>
     ensures { OnOk result (out.new ≡ out.old ++ flight_text flight.now) }
 {
@@ -49,7 +49,7 @@ pub fn write_flight(out: &mut Octets, flight: &Flight) -> Result<(), Memory>
     }
 }
 
-/// Adds a PDCP PDU on the air; only a data PDU has a tag.
+/// Writes a PDCP PDU on the air; only a data PDU has a tag.
 fn write_air(
     out: &mut Octets,
     id: DrbId,
@@ -78,7 +78,7 @@ fn write_air(
     }
 }
 
-/// Adds a word, a bearer, a generation of it, and a number or a count in that generation.
+/// Writes a word, a bearer, a generation of it, and a number or a count in that generation.
 fn write_counted(out: &mut Octets, word: &str, id: DrbId, g: Gen, count: u32) -> Result<(), Memory>
     ensures { OnOk result (out.new ≡ out.old ++ spaced (word.now ∷ decimal id ∷ decimal g ∷ decimal count ∷ [])) }
 {
@@ -103,7 +103,7 @@ fn is_data(pdu: &[u8]) -> bool
     }
 }
 
-/// Adds a record.
+/// Writes a record.
 fn write_record(out: &mut Octets, rec: &Rec) -> Result<(), Memory>
     ensures { OnOk result (out.new ≡ out.old ++ rec_text rec.now) }
 {
@@ -146,14 +146,14 @@ fn write_record(out: &mut Octets, rec: &Rec) -> Result<(), Memory>
     }
 }
 
-/// Adds the word of a record and a generation.
+/// Writes the word of a record and a generation.
 fn write_with_gen(out: &mut Octets, word: &str, g: Gen) -> Result<(), Memory>
     ensures { OnOk result (out.new ≡ out.old ++ spaced (word.now ∷ decimal g ∷ [])) }
 {
     write_spaced(out, &[Field::Text(word), Field::Number(g)])
 }
 
-/// Adds the word of a record and a plan.
+/// Writes the word of a record and a plan.
 fn write_with_plan(out: &mut Octets, word: &str, plan: &Plan) -> Result<(), Memory>
     ensures { OnOk result (out.new ≡ out.old ++ spaced (word.now ∷ plan_text plan.now ∷ [])) }
 {
@@ -162,7 +162,7 @@ fn write_with_plan(out: &mut Octets, word: &str, plan: &Plan) -> Result<(), Memo
     write_plan(out, plan)
 }
 
-/// Adds SCG failure information: each bearer and generation that failed.
+/// Writes SCG failure information: each bearer and generation that failed.
 fn write_failed(out: &mut Octets, failed: &Seq<(DrbId, Gen)>) -> Result<(), Memory>
     ensures { OnOk result (out.new ≡ out.old ++ spaced (codes "scgf" ∷ map pair_text failed.now)) }
 {
@@ -174,7 +174,7 @@ fn write_failed(out: &mut Octets, failed: &Seq<(DrbId, Gen)>) -> Result<(), Memo
     Ok(())
 }
 
-/// Adds SN STATUS TRANSFER.
+/// Writes SN STATUS TRANSFER.
 fn write_status(out: &mut Octets, status: &StatusTransfer) -> Result<(), Memory>
     ensures { OnOk result (out.new ≡ out.old ++ spaced (codes "snst" ∷ decimal status.now.g ∷ decimal status.now.id ∷ decimal status.now.ul ∷ octets_or_dash status.now.bits ∷ decimal status.now.dl ∷ [])) }
 {

@@ -1,10 +1,10 @@
 //! The text of scripts and transcripts: each line is written, and each line of a script is read.
 #![tactic(auto)]
 
+mod field_reader;
 mod fields;
 mod flights;
 mod lines;
-mod places;
 mod reading;
 mod scripted;
 mod spelling;
@@ -12,6 +12,6 @@ mod spelling;
 mod tests;
 mod words;
 
-pub use lines::{write_header, write_line};
+pub use lines::{write_first, write_line, write_lines};
 pub use reading::{read_header, read_line};
 pub use scripted::{LineFault, Scripted};

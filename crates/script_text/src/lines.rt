@@ -1,8 +1,8 @@
-//! Lines, written.
+//! Lines, written. After want of memory what was written is not used.
 
 ghost use Rattle.std.specs.Prelude.{◌≡◌, ◌++◌, ◌∷◌, [], OnOk, IfOk};
 ghost use Rattle.std.specs.Fmt.{decimal};
-ghost use Rattle.transcript.specs.Text.{header_text, event_text, answer_text, note_text, line_text};
+ghost use Rattle.transcript.specs.Text.{header_text, event_text, answer_text, note_text, line_text, lines_text, ended, mark};
 ghost use Rattle.transcript.specs.Words.{spaced, link_word, node_word};
 ghost use Rattle.dc_base.specs.declared.events.Event.TheVariants.{Bearer};
 ghost use Rattle.dc_base.specs.declared.events.Line.TheVariants.{Send};
@@ -11,26 +11,48 @@ ghost use Rattle.script_text.specs.Fields.{field_text};
 
 use crate::fields::{Field, write_field, write_spaced};
 use crate::flights::write_flight;
-use crate::words::{write_link, write_text};
+use crate::words::write_link;
 use dc_base::{
     Answer, Dir, DrbId, Event, Flight, Gen, Header, Line, LinkId, Memory, Node, Note, Octets,
     Shape, SnLen,
 };
+use dc_text::write_text;
 use std::alloc::Global;
 
-/// The header as the first line of a script and of a transcript, without its end. The only error is want of memory.
-pub fn write_header(alloc: Global, header: &Header) -> Result<Octets, Memory>
-    ensures { IfOk result (λ text. text ≡ header_text header.now) }
+/// Writes the first line of a transcript: the header as a script has it, with its end. The only error is want of
+/// memory.
+pub fn write_first(out: &mut Octets, header: &Header) -> Result<(), Memory>
+    ensures { OnOk result (out.new ≡ out.old ++ ended (header_text header.now)) }
 {
-    let mut out = Octets::new(alloc);
     let fields = [
         Field::Text("dcs1"),
         Field::Alg(header.alg),
         Field::Number(header.used),
         Field::Root(&header.root),
     ];
-    write_spaced(&mut out, &fields)?;
-    Ok(out)
+    write_spaced(out, &fields)?;
+    out.push(b'\n')
+}
+
+/// Writes lines of a transcript, each with its mark and its end.
+pub fn write_lines(out: &mut Octets, lines: &[Line]) -> Result<(), Memory>
+    ensures { OnOk result (out.new ≡ out.old ++ lines_text lines.now) }
+{
+    for line in lines {
+        write_ended(out, line)?;
+    }
+    Ok(())
+}
+
+/// Writes a line of a transcript with its mark and its end.
+fn write_ended(out: &mut Octets, line: &Line) -> Result<(), Memory>
+    ensures { OnOk result (out.new ≡ out.old ++ ended (mark line.now ++ line_text line.now)) }
+{
+    if let Line::Event(_) = line {
+        write_text(out, "> ")?;
+    }
+    write_bare(out, line)?;
+    out.push(b'\n')
 }
 
 /// A line of a transcript without its end, and an event without its mark `> `, as a script has it. The only error
@@ -39,12 +61,12 @@ pub fn write_line(alloc: Global, line: &Line) -> Result<Octets, Memory>
     ensures { IfOk result (λ text. text ≡ line_text line.now) }
 {
     let mut out = Octets::new(alloc);
-    append_line(&mut out, line)?;
+    write_bare(&mut out, line)?;
     Ok(out)
 }
 
-/// Adds a line.
-fn append_line(out: &mut Octets, line: &Line) -> Result<(), Memory>
+/// Writes a line without its end, and an event without its mark.
+fn write_bare(out: &mut Octets, line: &Line) -> Result<(), Memory>
     ensures { OnOk result (out.new ≡ out.old ++ line_text line.now) }
 {
     match line {
@@ -61,7 +83,7 @@ fn append_line(out: &mut Octets, line: &Line) -> Result<(), Memory>
     }
 }
 
-/// Adds an event.
+/// Writes an event.
 fn write_event(out: &mut Octets, event: &Event) -> Result<(), Memory>
     ensures { OnOk result (out.new ≡ out.old ++ event_text event.now) }
 {
@@ -96,13 +118,13 @@ fn write_event(out: &mut Octets, event: &Event) -> Result<(), Memory>
                 &[Field::Dir(*dir), Field::Id(*id), Field::Payload(sdu)],
             )
         }
-        Event::Step { link, index } => write_fate(out, "step", *link, *index),
-        Event::Lose { link, index } => write_fate(out, "lose", *link, *index),
-        Event::Again { link, index } => write_fate(out, "again", *link, *index),
+        Event::Step { link, index } => write_at_link(out, "step", *link, *index),
+        Event::Lose { link, index } => write_at_link(out, "lose", *link, *index),
+        Event::Again { link, index } => write_at_link(out, "again", *link, *index),
     }
 }
 
-/// Adds a bearer: what it is set up with.
+/// Writes a bearer: what it is set up with.
 fn write_bearer(
     out: &mut Octets,
     id: DrbId,
@@ -128,7 +150,7 @@ fn write_bearer(
     )
 }
 
-/// Adds a word and two fields.
+/// Writes a word and two fields.
 fn write_with_two(out: &mut Octets, word: &str, first: &Field, second: &Field) -> Result<(), Memory>
     ensures { OnOk result (out.new ≡ out.old ++ spaced (word.now ∷ field_text first.now ∷ field_text second.now ∷ [])) }
 {
@@ -139,21 +161,21 @@ fn write_with_two(out: &mut Octets, word: &str, first: &Field, second: &Field) -
     write_field(out, second)
 }
 
-/// Adds a word, a node and a field.
+/// Writes a word, a node and a field.
 fn write_with_node(out: &mut Octets, word: &str, node: Node, field: &Field) -> Result<(), Memory>
     ensures { OnOk result (out.new ≡ out.old ++ spaced (word.now ∷ node_word node ∷ field_text field.now ∷ [])) }
 {
     write_with_two(out, word, &Field::Node(node), field)
 }
 
-/// Adds what happens to a flight: the word, the link, the place on it.
-fn write_fate(out: &mut Octets, word: &str, link: LinkId, index: u32) -> Result<(), Memory>
+/// Writes what happens to a flight: the word, the link, the place on it.
+fn write_at_link(out: &mut Octets, word: &str, link: LinkId, index: u32) -> Result<(), Memory>
     ensures { OnOk result (out.new ≡ out.old ++ spaced (word.now ∷ link_word link ∷ decimal index ∷ [])) }
 {
     write_with_two(out, word, &Field::Link(link), &Field::Number(index))
 }
 
-/// Adds an answer.
+/// Writes an answer.
 fn write_answer(out: &mut Octets, answer: Answer) -> Result<(), Memory>
     ensures { OnOk result (out.new ≡ out.old ++ answer_text answer) }
 {
@@ -163,7 +185,7 @@ fn write_answer(out: &mut Octets, answer: Answer) -> Result<(), Memory>
     }
 }
 
-/// Adds a note.
+/// Writes a note.
 fn write_note(out: &mut Octets, note: &Note) -> Result<(), Memory>
     ensures { OnOk result (out.new ≡ out.old ++ note_text note.now) }
 {
@@ -202,7 +224,7 @@ fn write_note(out: &mut Octets, note: &Note) -> Result<(), Memory>
     }
 }
 
-/// Adds what a node holds of a bearer from now on: the word, the node, the bearer, the generation.
+/// Writes what a node holds of a bearer from now on: the word, the node, the bearer, the generation.
 fn write_held(out: &mut Octets, word: &str, node: Node, id: DrbId, g: Gen) -> Result<(), Memory>
     ensures { OnOk result (out.new ≡ out.old ++ spaced (word.now ∷ node_word node ∷ decimal id ∷ decimal g ∷ [])) }
 {
@@ -217,7 +239,7 @@ fn write_held(out: &mut Octets, word: &str, node: Node, id: DrbId, g: Gen) -> Re
     )
 }
 
-/// Adds an SDU that is delivered.
+/// Writes an SDU that is delivered.
 fn write_up(
     out: &mut Octets,
     node: Node,
@@ -241,7 +263,7 @@ fn write_up(
     )
 }
 
-/// Adds a flight that is put at the end of a link.
+/// Writes a flight that is put at the end of a link.
 fn write_send(out: &mut Octets, link: LinkId, flight: &Flight) -> Result<(), Memory>
     ensures { OnOk result (out.new ≡ out.old ++ line_text (Send link flight.now)) }
 {

@@ -1,12 +1,43 @@
-//! The words that a script may have, read.
+//! The values that a field of a script writes as one word, read.
 #![tactic(auto, unfolding(crate::specs::Spelling::value_of))]
 
-ghost use Rattle.std.specs.Prelude.{◌≡◌, ◌≢◌, IfSome, IfNone, IsTrue};
+ghost use Rattle.std.specs.Prelude.{◌≡◌, ◌≢◌, ◌≤◌, ℕ, List, length, IfSome, IfNone, IsTrue, refl};
+ghost use Rattle.std.proofs.Common.{arith};
+ghost use Rattle.std.specs.Fmt.{decimal};
+ghost use Rattle.hex.specs.Hex.{encode_lower, IsBytes};
 ghost use Rattle.transcript.specs.Words.{node_word, alg_word, sn_word, link_word, shape_word, want_word, state_word};
 ghost use Rattle.script_text.specs.Spelling.{value_of};
-ghost use Rattle.script_text.specs.Grammar.{command_word, is_link, is_secondary, is_shape, Allows, Kind, AnyNode, Secondary, Sequence, Cipher, State, Wanted, Shaped, Linked};
+ghost use Rattle.dc_base.specs.Links.{is_link};
+ghost use Rattle.dc_base.specs.Nodes.{is_secondary, is_shape};
+ghost use Rattle.script_text.specs.Grammar.{command_word, Allows, Kind, AnyNode, Secondary, Sequence, Cipher, State, Wanted, Shaped, Linked, identity, root};
+ghost use Rattle.script_text.specs.Scripts.{IsIdentity, IsRoot};
 
-use dc_base::{Alg, Cell, Class, LegSet, LinkId, Node, Shape, SnLen, Want};
+use crate::field_reader::number_of;
+use dc_base::{Alg, Cell, Class, DrbId, LegSet, LinkId, Node, Shape, SnLen, Want};
+
+/// A value that one field of a line writes.
+pub trait Spelled: Copy {
+    /// The sort of the field.
+    ghost kind: { Kind };
+
+    /// The field that writes a value.
+    ghost word: { Self → List ℕ };
+
+    /// The values that a script may have.
+    ghost in_range: { Self → Type 0 };
+
+    /// The value that the field writes. `None` exactly where it writes none that a script may have.
+    fn of(field: &[u8]) -> Option<Self>
+        ensures some { IfSome result (λ v. in_range v × (field.now ≡ word v)) }
+        ensures none { IfNone result (Allows kind field.now → ⊥) };
+
+    /// The field of such a value is of the sort.
+    ghost allowed: { (v : Self) → in_range v → Allows kind (word v) };
+}
+
+/// A secondary node.
+#[derive(Clone, Copy, Debug, PartialEq, Eq)]
+pub struct SecondaryNode(pub Node);
 
 /// The first word of a line.
 #[derive(Clone, Copy, Debug, PartialEq, Eq)]
@@ -59,7 +90,10 @@ const NODES: [(&str, Node); 4] = [
     ("b", Node::B),
 ];
 
-const SECONDARIES: [(&str, Node); 2] = [("a", Node::A), ("b", Node::B)];
+const SECONDARIES: [(&str, SecondaryNode); 2] = [
+    ("a", SecondaryNode(Node::A)),
+    ("b", SecondaryNode(Node::B)),
+];
 
 const SN_LENGTHS: [(&str, SnLen); 2] = [("12", SnLen::S12), ("18", SnLen::S18)];
 
@@ -135,56 +169,148 @@ pub fn command_of(field: &[u8]) -> Option<Command>
     lookup(&COMMANDS, field)
 }
 
-/// The node of a word.
-pub fn node_of(field: &[u8]) -> Option<Node>
-    ensures some { IfSome result (λ node. Unit {0} × (field.now ≡ node_word node)) }
-    ensures none { IfNone result (Allows AnyNode field.now → ⊥) }
-{
-    lookup(&NODES, field)
+impl Spelled for Node {
+    ghost kind = { AnyNode };
+
+    ghost word = { node_word };
+
+    ghost in_range = { λ _. Unit {0} };
+
+    fn of(field: &[u8]) -> Option<Node> {
+        lookup(&NODES, field)
+    }
+
+    ghost allowed = { λ v _. (v, refl) };
 }
 
-/// The secondary node of a word.
-pub fn secondary_of(field: &[u8]) -> Option<Node>
-    ensures some { IfSome result (λ node. IsTrue (is_secondary node) × (field.now ≡ node_word node)) }
-    ensures none { IfNone result (Allows Secondary field.now → ⊥) }
-{
-    lookup(&SECONDARIES, field)
+impl Spelled for SnLen {
+    ghost kind = { Sequence };
+
+    ghost word = { sn_word };
+
+    ghost in_range = { λ _. Unit {0} };
+
+    fn of(field: &[u8]) -> Option<SnLen> {
+        lookup(&SN_LENGTHS, field)
+    }
+
+    ghost allowed = { λ v _. (v, refl) };
 }
 
-/// The length of sequence numbers of a word.
-pub fn sn_length_of(field: &[u8]) -> Option<SnLen>
-    ensures some { IfSome result (λ length. Unit {0} × (field.now ≡ sn_word length)) }
-    ensures none { IfNone result (Allows Sequence field.now → ⊥) }
-{
-    lookup(&SN_LENGTHS, field)
+impl Spelled for Alg {
+    ghost kind = { Cipher };
+
+    ghost word = { alg_word };
+
+    ghost in_range = { λ _. Unit {0} };
+
+    fn of(field: &[u8]) -> Option<Alg> {
+        lookup(&ALGS, field)
+    }
+
+    ghost allowed = { λ v _. (v, refl) };
 }
 
-/// The algorithm of a word.
-pub fn alg_of(field: &[u8]) -> Option<Alg>
-    ensures some { IfSome result (λ alg. Unit {0} × (field.now ≡ alg_word alg)) }
-    ensures none { IfNone result (Allows Cipher field.now → ⊥) }
-{
-    lookup(&ALGS, field)
+impl Spelled for bool {
+    ghost kind = { State };
+
+    ghost word = { state_word };
+
+    ghost in_range = { λ _. Unit {0} };
+
+    fn of(field: &[u8]) -> Option<bool> {
+        lookup(&STATES, field)
+    }
+
+    ghost allowed = { λ v _. (v, refl) };
 }
 
-/// The state of a word.
-pub fn state_of(field: &[u8]) -> Option<bool>
-    ensures some { IfSome result (λ on. Unit {0} × (field.now ≡ state_word on)) }
-    ensures none { IfNone result (Allows State field.now → ⊥) }
-{
-    lookup(&STATES, field)
+impl Spelled for Want {
+    ghost kind = { Wanted };
+
+    ghost word = { want_word };
+
+    ghost in_range = { λ _. Unit {0} };
+
+    fn of(field: &[u8]) -> Option<Want> {
+        lookup(&WANTS, field)
+    }
+
+    ghost allowed = { λ v _. (v, refl) };
 }
 
-/// What a secondary node may ask for, by its word.
-pub fn want_of(field: &[u8]) -> Option<Want>
-    ensures some { IfSome result (λ what. Unit {0} × (field.now ≡ want_word what)) }
-    ensures none { IfNone result (Allows Wanted field.now → ⊥) }
-{
-    lookup(&WANTS, field)
+impl Spelled for SecondaryNode {
+    ghost kind = { Secondary };
+
+    ghost word = { λ s. node_word s.0 };
+
+    ghost in_range = { λ s. IsTrue (is_secondary s.0) };
+
+    fn of(field: &[u8]) -> Option<SecondaryNode> {
+        lookup(&SECONDARIES, field)
+    }
+
+    ghost allowed = { λ v h. (v.0, h, refl) };
+}
+
+impl Spelled for Shape {
+    ghost kind = { Shaped };
+
+    ghost word = { shape_word };
+
+    ghost in_range = { λ s. IsTrue (is_shape s) };
+
+    fn of(field: &[u8]) -> Option<Shape> {
+        shape_of(field)
+    }
+
+    ghost allowed = { λ v h. (v, h, refl) };
+}
+
+impl Spelled for LinkId {
+    ghost kind = { Linked };
+
+    ghost word = { link_word };
+
+    ghost in_range = { λ l. IsTrue (is_link l) };
+
+    fn of(field: &[u8]) -> Option<LinkId> {
+        link_of(field)
+    }
+
+    ghost allowed = { λ v h. (v, h, refl) };
+}
+
+impl Spelled for DrbId {
+    ghost kind = { identity };
+
+    ghost word = { decimal };
+
+    ghost in_range = { IsIdentity };
+
+    fn of(field: &[u8]) -> Option<DrbId> {
+        DrbId::new(number_of(field, 1, 32)? as u8)
+    }
+
+    ghost allowed = { λ v h. (v, h.0, h.1, refl) };
+}
+
+impl Spelled for [u8; 32] {
+    ghost kind = { root };
+
+    ghost word = { encode_lower };
+
+    ghost in_range = { IsRoot };
+
+    fn of(field: &[u8]) -> Option<[u8; 32]> {
+        root_of(field)
+    }
+
+    ghost allowed = { λ v h. (v, h.0, Prim.omega (arith, h.1), Prim.omega (arith, h.1), refl) };
 }
 
 /// The shape of a word.
-pub fn shape_of(field: &[u8]) -> Option<Shape>
+fn shape_of(field: &[u8]) -> Option<Shape>
     ensures some { IfSome result (λ shape. IsTrue (is_shape shape) × (field.now ≡ shape_word shape)) }
     ensures none { IfNone result (Allows Shaped field.now → ⊥) }
 {
@@ -199,7 +325,7 @@ pub fn shape_of(field: &[u8]) -> Option<Shape>
 }
 
 /// The link of a word.
-pub fn link_of(field: &[u8]) -> Option<LinkId>
+fn link_of(field: &[u8]) -> Option<LinkId>
     ensures some { IfSome result (λ link. IsTrue (is_link link) × (field.now ≡ link_word link)) }
     ensures none { IfNone result (Allows Linked field.now → ⊥) }
 {
@@ -211,4 +337,29 @@ pub fn link_of(field: &[u8]) -> Option<LinkId>
         }),
         None => None,
     }
+}
+
+/// The root key that the field writes in 64 lower-case hexadecimal digits: what it decodes to is written as the field.
+fn root_of(field: &[u8]) -> Option<[u8; 32]>
+    ensures some { IfSome result (λ octets. IsRoot octets × (field.now ≡ encode_lower octets)) }
+    ensures none { IfNone result (Allows root field.now → ⊥) }
+{
+    let mut octets = [0; 32];
+    let _ = hex::decode_to_slice(field, &mut octets);
+    if field == root_text(&octets).as_slice() {
+        Some(octets)
+    } else {
+        None
+    }
+}
+
+/// The 64 digits of a root key.
+fn root_text(octets: &[u8; 32]) -> [u8; 64]
+    ensures text { result ≡ encode_lower octets.now }
+    ensures bytes { IsBytes octets.now }
+    ensures size { length octets.now ≡ 32 }
+{
+    let mut text = [0; 64];
+    let _ = hex::encode_to_slice(octets.as_slice(), &mut text);
+    text
 }

@@ -1,6 +1,6 @@
 //! Rows worked by hand.
 
-use crate::{LineFault, Scripted, read_header, read_line, write_header, write_line};
+use crate::{LineFault, Scripted, read_header, read_line, write_first, write_line};
 use dc_base::{
     Alg, Answer, Cell, Class, Dir, DrbId, Event, Flight, Header, Item, KeyName, LegSet, Line,
     LinkId, Memory, Node, Note, Octets, Plan, Rec, Refusal, Seq, Shape, Side, SnLen,
@@ -306,10 +306,11 @@ fn a_header_is_written(rt: HostRuntime) -> Result<(), Fail> {
         used: 0,
         root: [0; 32],
     };
-    let written = write_header(rt.alloc(), &header)?;
+    let mut written = Octets::new(rt.alloc());
+    write_first(&mut written, &header)?;
     assert_eq!(rt;
         written.as_slice(),
-        b"dcs1 nea0 0 0000000000000000000000000000000000000000000000000000000000000000".as_slice()
+        b"dcs1 nea0 0 0000000000000000000000000000000000000000000000000000000000000000\n".as_slice()
     );
     Ok(())
 }

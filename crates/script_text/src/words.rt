@@ -1,45 +1,15 @@
 //! The fixed words of a line, and the texts that are made of several of them.
 
 ghost use Rattle.std.specs.Prelude.{◌≡◌, ℕ, ◌++◌, ◌∷◌, [], List, OnOk};
-ghost use Rattle.std.specs.Fmt.{decimal};
-ghost use Rattle.hex.specs.Hex.{encode_lower};
 ghost use Rattle.transcript.specs.Words.{dir_word, node_word, alg_word, sn_word, class_word, cell_word, legs_word, link_word, shape_word, side_word, key_word, want_word, state_word, refusal_word, cause_word};
 
 use dc_base::{
     Alg, Cell, Class, Dir, KeyName, LegSet, LinkId, Memory, Node, Octets, Refusal, Shape, Side,
     SnLen, Want, Word,
 };
+use dc_text::{write_decimal, write_text};
 
-/// The hexadecimal digits.
-const DIGITS: &[u8; 16] = b"0123456789abcdef";
-
-/// Adds a text.
-pub fn write_text(out: &mut Octets, text: &str) -> Result<(), Memory>
-    ensures { OnOk result (out.new ≡ out.old ++ text.now) }
-{
-    out.extend(text.as_bytes())
-}
-
-/// Adds a number in decimal digits.
-pub fn write_number(out: &mut Octets, number: u32) -> Result<(), Memory>
-    ensures { OnOk result (out.new ≡ out.old ++ decimal number) }
-{
-    let mut digits = itoa::Buffer::new();
-    write_text(out, digits.format(number))
-}
-
-/// Adds octets, each as two hexadecimal digits.
-pub fn write_octets(out: &mut Octets, octets: &[u8]) -> Result<(), Memory>
-    ensures { OnOk result (out.new ≡ out.old ++ encode_lower octets.now) }
-{
-    for octet in octets {
-        out.push(DIGITS[(*octet / 16) as usize])?;
-        out.push(DIGITS[(*octet % 16) as usize])?;
-    }
-    Ok(())
-}
-
-/// Adds a link: its sender and its receiver, a dot, its class.
+/// Writes a link: its sender and its receiver, a dot, its class.
 pub fn write_link(out: &mut Octets, link: LinkId) -> Result<(), Memory>
     ensures { OnOk result (out.new ≡ out.old ++ link_word link) }
 {
@@ -49,7 +19,7 @@ pub fn write_link(out: &mut Octets, link: LinkId) -> Result<(), Memory>
     write_text(out, of_class(link.class))
 }
 
-/// Adds a shape: its anchor, its legs, and a `d` for duplication.
+/// Writes a shape: its anchor, its legs, and a `d` for duplication.
 pub fn write_shape(out: &mut Octets, shape: Shape) -> Result<(), Memory>
     ensures { OnOk result (out.new ≡ out.old ++ shape_word shape) }
 {
@@ -58,20 +28,20 @@ pub fn write_shape(out: &mut Octets, shape: Shape) -> Result<(), Memory>
     write_text(out, if shape.dup { "d" } else { "" })
 }
 
-/// Adds the name of a key: `mR` for the master's of root R, `sR.C` for K_SN of SN Counter C.
+/// Writes the name of a key: `mR` for the master's of root R, `sR.C` for K_SN of SN Counter C.
 pub fn write_key(out: &mut Octets, key: KeyName) -> Result<(), Memory>
     ensures { OnOk result (out.new ≡ out.old ++ key_word key) }
 {
     match key.side {
         Side::Master => {
             write_text(out, "m")?;
-            write_number(out, key.root)
+            write_decimal(out, u64::from(key.root))
         }
         Side::Second(counter) => {
             write_text(out, "s")?;
-            write_number(out, key.root)?;
+            write_decimal(out, u64::from(key.root))?;
             write_text(out, ".")?;
-            write_number(out, u32::from(counter))
+            write_decimal(out, u64::from(counter))
         }
     }
 }

@@ -147,7 +147,3 @@ ended text = text ++ 10 ∷ []
 -- the text of a list of lines
 abbrev pub lines_text : List Line → List ℕ
 lines_text lines = flat_map (λ l. ended (mark l ++ line_text l)) lines
-
--- a script: the header and the events, each a line
-abbrev pub script_text : Header → List Event → List ℕ
-script_text h events = ended (header_text h) ++ flat_map (λ e. ended (event_text e)) events

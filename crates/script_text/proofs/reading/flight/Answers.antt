@@ -12,4 +12,4 @@ returns-in_err-link-clause-fault c =
 pub returns-in_err-index-clause-fault : goal.returns-in_err-index-clause-fault
 returns-in_err-index-clause-fault c =
     let p = err_from_is_err_and c.from_residual-in_err-index.result c.from_residual-in_err-index.ensures.1 in
-    rw (p.1, p.2) (later _ (word_32 ∷ []) _ _ _ _ _ c.in_ok-link.ensures.taken (c.in_err-index.ensures.fault []))
+    rw (p.1, p.2) (later _ (word_32 ∷ []) _ _ _ _ c.in_ok-link.ensures.taken (c.in_err-index.ensures.fault []))

@@ -12,4 +12,4 @@ returns-in_err-node-clause-fault c =
 pub returns-in_err-id-clause-fault : goal.returns-in_err-id-clause-fault
 returns-in_err-id-clause-fault c =
     let p = err_from_is_err_and c.from_residual-in_err-id.result c.from_residual-in_err-id.ensures.1 in
-    rw (p.1, p.2) (later _ (identity ∷ []) _ _ _ _ _ c.in_ok-node.ensures.taken (c.in_err-id.ensures.fault []))
+    rw (p.1, p.2) (later _ (identity ∷ []) _ _ _ _ c.in_ok-node.ensures.taken (c.in_err-id.ensures.fault []))

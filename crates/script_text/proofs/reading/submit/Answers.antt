@@ -12,4 +12,4 @@ returns-in_err-id-clause-fault c =
 pub returns-in_err-sdu-clause-fault : goal.returns-in_err-sdu-clause-fault
 returns-in_err-sdu-clause-fault c =
     let p = err_from_is_err_and c.from_residual-in_err-sdu.result c.from_residual-in_err-sdu.ensures.1 in
-    rw (p.1, p.2) (later _ (payload ∷ []) _ _ _ _ _ c.in_ok-id.ensures.taken (c.in_err-sdu.ensures.fault []))
+    rw (p.1, p.2) (later _ (payload ∷ []) _ _ _ _ c.in_ok-id.ensures.taken (c.in_err-sdu.ensures.fault []))

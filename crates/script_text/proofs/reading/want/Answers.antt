@@ -4,12 +4,12 @@ use Rattle.script_text.specs.Grammar.{Wanted}
 use Rattle.script_text.proofs.Taking.{later}
 use Rattle.script_text.proofs.reading.want.Goals as goal
 
-pub returns-in_err-node-clause-fault : goal.returns-in_err-node-clause-fault
-returns-in_err-node-clause-fault c =
+pub returns-in_err-secondary-clause-fault : goal.returns-in_err-secondary-clause-fault
+returns-in_err-secondary-clause-fault c =
     let p = err_from_is_err_and c.from_residual.result c.from_residual.ensures.1 in
-    rw (p.1, p.2) (c.in_err-node.ensures.fault (Wanted ∷ []))
+    rw (p.1, p.2) (c.in_err-secondary.ensures.fault (Wanted ∷ []))
 
 pub returns-in_err-what-clause-fault : goal.returns-in_err-what-clause-fault
 returns-in_err-what-clause-fault c =
     let p = err_from_is_err_and c.from_residual-in_err-what.result c.from_residual-in_err-what.ensures.1 in
-    rw (p.1, p.2) (later _ (Wanted ∷ []) _ _ _ _ _ c.in_ok-node.ensures.taken (c.in_err-what.ensures.fault []))
+    rw (p.1, p.2) (later _ (Wanted ∷ []) _ _ _ _ c.in_ok-secondary.ensures.taken (c.in_err-what.ensures.fault []))

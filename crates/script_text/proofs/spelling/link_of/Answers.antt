@@ -3,7 +3,7 @@ use Rattle.dc_base.specs.declared.nodes.Node.{Node}
 use Rattle.dc_base.specs.declared.nodes.Class.{Class}
 use Rattle.dc_base.specs.declared.nodes.LinkId.{LinkId}
 use Rattle.transcript.specs.Words.{link_word}
-use Rattle.script_text.specs.Grammar.{is_link}
+use Rattle.dc_base.specs.Links.{is_link}
 use Rattle.script_text.proofs.Tables.{found_spells}
 use Rattle.script_text.proofs.spelling.link_of.Goals as goal
 

@@ -2,7 +2,7 @@ use Rattle.std.proofs.Common.{refl, Bool}
 use Rattle.dc_base.specs.declared.nodes.LegSet.{LegSet}
 use Rattle.dc_base.specs.declared.nodes.Shape.{Shape}
 use Rattle.transcript.specs.Words.{shape_word}
-use Rattle.script_text.specs.Grammar.{is_shape}
+use Rattle.dc_base.specs.Nodes.{is_shape}
 use Rattle.script_text.proofs.Tables.{found_spells}
 use Rattle.script_text.proofs.spelling.shape_of.Goals as goal
 

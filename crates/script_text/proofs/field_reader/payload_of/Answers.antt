@@ -1,6 +1,6 @@
 use Rattle.std.proofs.Common.{arith}
 use Rattle.script_text.proofs.Ranges.{too_many_octets}
-use Rattle.script_text.proofs.places.payload_of.Goals as goal
+use Rattle.script_text.proofs.field_reader.payload_of.Goals as goal
 
 pub returns-else-len-le-MAX_PAYLOAD-clause-none : goal.returns-else-len-le-MAX_PAYLOAD-clause-none
 returns-else-len-le-MAX_PAYLOAD-clause-none c =

@@ -1,6 +1,6 @@
 use Rattle.std.proofs.Common.{◌∙◌}
 use Rattle.script_text.proofs.Ranges.{root_decoded, same_text, other_text}
-use Rattle.script_text.proofs.places.root_of.Goals as goal
+use Rattle.script_text.proofs.spelling.root_of.Goals as goal
 
 pub returns-then-eq-clause-some : goal.returns-then-eq-clause-some
 returns-then-eq-clause-some c = (

@@ -1,5 +1,5 @@
 use Rattle.script_text.proofs.Cuts.{first_space_or_end}
-use Rattle.script_text.proofs.places.field_length.Goals as goal
+use Rattle.script_text.proofs.field_reader.field_length.Goals as goal
 
 pub returns-in-None-clause-value : goal.returns-in-None-clause-value
 returns-in-None-clause-value c = first_space_or_end c.args.rest.now _ c.in-None.ensures

@@ -1,6 +1,6 @@
 use Rattle.std.proofs.Common.{arith}
 use Rattle.script_text.proofs.Ranges.{low_number}
-use Rattle.script_text.proofs.places.number_of.Goals as goal
+use Rattle.script_text.proofs.field_reader.number_of.Goals as goal
 
 pub returns-else-number-from-clause-none : goal.returns-else-number-from-clause-none
 returns-else-number-from-clause-none c =
