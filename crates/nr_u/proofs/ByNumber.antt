@@ -1,5 +1,5 @@
 -- Lists by ascending numbers, and what a new number does to them.
-use Rattle.std.proofs.Common.{◌≡◌, ℕ, ◌+◌, ◌<◌, ◌≤◌, ◌⊎◌, Bool, true, false, cond, List, [], ◌∷◌, is_some, refl, sym, inl, inr, arith}
+use Rattle.std.proofs.Common.{◌≡◌, ℕ, ◌+◌, ◌<◌, ◌≤◌, ◌⊎◌, Bool, true, false, cond, List, [], ◌∷◌, is_some, refl, sym, subst, inl, inr, arith}
 use Rattle.std.specs.Prelude.{filter}
 use Rattle.std.specs.List.{AllByRecursion}
 use Rattle.std.specs.Ordering.{nat_cmp}
@@ -10,9 +10,9 @@ use Rattle.std.specs.BTreeSet.{insert_key}
 use Rattle.std.specs.Map.{lookup, remove_entry}
 use Rattle.std.specs.Set.{remove_key}
 use Rattle.std.proofs.lemmas.Bool.{cases_order, cases_Bool}
-use Rattle.nr_u.specs.declared.inbound.Arrival.{Arrival}
-use Rattle.nr_u.specs.Incoming.{Numbered, Ascends, has, contains}
-use Rattle.nr_u.specs.Kept.{next_after}
+use Rattle.nr_u.specs.declared.tunnel.inbound.Arrival.{Arrival}
+use Rattle.nr_u.specs.Tunnel.Incoming.{Numbered, Ascends, has, contains}
+use Rattle.nr_u.specs.Tunnel.Kept.{next_after}
 
 -- how two numbers compare
 pub cmp_tells : (a b : ℕ) → ((nat_cmp a b ≡ Less) × (a < b)) ⊎ (((nat_cmp a b ≡ Equal) × (a ≡ b)) ⊎ ((nat_cmp a b ≡ Greater) × (b < a)))
@@ -85,6 +85,17 @@ Came-insert k a es (x ∷ ks) all =
       | inr rest ↦ elim rest [
         | inl same ↦ rw same.0 (Came-later k a es (x ∷ ks) all)
         | inr more ↦ rw more.0 (has-insert x k a es all.0, Came-insert k a es ks all.1)
+      ]
+    ]
+
+pub insert_all : (P : Numbered → Type 0) (k : ℕ) (a : Arrival) (es : List Numbered) → P (k, a) → AllByRecursion P es → AllByRecursion P (insert_entry nat_cmp es k a)
+insert_all P k a [] here all = (here, tt)
+insert_all P k a (e ∷ es) here all =
+    elim (cmp_tells k e.0) [
+      | inl less ↦ rw less.0 (here, all)
+      | inr rest ↦ elim rest [
+        | inl same ↦ rw same.0 (subst (λ (x : ℕ). P (x, a)) same.1 here, all.1)
+        | inr more ↦ rw more.0 (all.0, insert_all P k a es here all.1)
       ]
     ]
 

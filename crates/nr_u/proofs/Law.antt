@@ -1,6 +1,6 @@
 -- A delivery status confirms what came and was acked, and nothing else.
-use Rattle.std.proofs.Common.{◌≡◌, ℕ, zero, suc, ◌+◌, ◌<◌, ◌≤◌, ◌⊎◌, ◌&&◌, ◌||◌, Bool, true, false, not, ltb, leb, List, [], ◌∷◌, take, Option, Some, None, is_some, refl, sym, ap, ◌∙◌, subst, inl, inr, arith}
-use Rattle.std.specs.Prelude.{◌≢◌, filter, map, take_while, option_map, option_and_then, slice_get}
+use Rattle.std.proofs.Common.{◌≡◌, ℕ, zero, suc, ◌+◌, ◌<◌, ◌≤◌, ◌^◌, ◌⊎◌, ◌&&◌, ◌||◌, Bool, true, false, not, ltb, leb, List, [], ◌∷◌, length, take, Option, Some, None, is_some, refl, sym, ap, ◌∙◌, subst, inl, inr, arith}
+use Rattle.std.specs.Prelude.{◌≢◌, IfSome, filter, map, take_while, option_map, option_and_then, slice_get}
 use Rattle.std.specs.List.{AllByRecursion}
 use Rattle.std.specs.Option.{IsSomeAnd}
 use Rattle.std.proofs.lemmas.Bool.{lt-ltb, ltb-true, le-leb, leb-true, cases_lt, cases_Bool, false≢true}
@@ -12,17 +12,18 @@ use Rattle.dc_base.proofs.Counting.{count_for_finds, sn_small}
 use Rattle.nr_u.specs.declared.frame.Range.{Range}
 use Rattle.nr_u.specs.declared.frame.Frame.{Frame}
 use Rattle.nr_u.specs.declared.frame.Frame.TheVariants.{Status}
-use Rattle.nr_u.specs.declared.inbound.Arrival.{Arrival}
-use Rattle.nr_u.specs.declared.outbound.Sent.{Sent}
-use Rattle.nr_u.specs.Frames.{Rising}
-use Rattle.nr_u.specs.Incoming.{Incoming, Numbered, Ascends, has, contains, gaps, listed, is_below, is_first, last, settled, named}
-use Rattle.nr_u.specs.Kept.{IsMissing}
-use Rattle.nr_u.specs.Delivery.{status_of}
-use Rattle.nr_u.specs.Outgoing.{Outgoing, Counted, highest_of, is_listed, confirms, confirmed_by}
-use Rattle.nr_u.specs.Verdicts.{confirmed_of}
-use Rattle.nr_u.specs.Ends.{first_send, AreFirstSends, IsAsSent, IsOtherEnd, WasAckedUnder, WasAcked}
+use Rattle.nr_u.specs.declared.tunnel.inbound.Arrival.{Arrival}
+use Rattle.nr_u.specs.declared.tunnel.outbound.Sent.{Sent}
+use Rattle.nr_u.specs.Frames.{Rising, IsWritable}
+use Rattle.nr_u.specs.Tunnel.Incoming.{Incoming, Numbered, Ascends, has, contains, gaps, listed, is_below, is_first, last, settled, named}
+use Rattle.nr_u.specs.Tunnel.Kept.{ByEnd, next_after, IsInboundState}
+use Rattle.nr_u.specs.Tunnel.Delivery.{status_of}
+use Rattle.nr_u.specs.Tunnel.Outgoing.{Outgoing, Counted, highest_of, is_listed, confirms, confirmed_by, first_send, AreFirstSends}
+use Rattle.nr_u.specs.Tunnel.Verdicts.{confirmed_of}
+use Rattle.nr_u.specs.Tunnel.Ends.{IsAsSent, IsOtherEnd, WasAckedUnder, WasAcked}
 use Rattle.nr_u.proofs.ByNumber.{cmp_tells}
-use Rattle.nr_u.proofs.Gaps.{gaps-missing, gaps-rising}
+use Rattle.nr_u.proofs.Filters.{all_filter}
+use Rattle.nr_u.proofs.Gaps.{IsMissing, gaps-missing, gaps-rising, gaps-end}
 use Rattle.nr_u.proofs.Settled.{has_before, has_head, has_other, next_bounds}
 
 -- ---- what is in a list
@@ -59,14 +60,6 @@ all_within P x (y ∷ ys) all there =
     elim there [
       | inl same ↦ subst P same all.0
       | inr later ↦ all_within P x ys all.1 later
-    ]
-
-pub all_filter : {X : Type 0} (P Q : X → Type 0) (p : X → Bool) (xs : List X) → AllByRecursion P xs → ((x : X) → P x → p x ≡ true → Q x) → AllByRecursion Q (filter p xs)
-all_filter P Q p [] all gives = tt
-all_filter P Q p (x ∷ xs) all gives =
-    elim (cases_Bool (p x)) [
-      | inl passes ↦ rw passes (gives x all.0 passes, all_filter P Q p xs all.1 gives)
-      | inr fails ↦ rw fails (all_filter P Q p xs all.1 gives)
     ]
 
 all_map : {X Y : Type 0} (P : X → Type 0) (Q : Y → Type 0) (f : X → Y) (xs : List X) → AllByRecursion P xs → ((x : X) → P x → Q (f x)) → AllByRecursion Q (map f xs)
@@ -219,33 +212,58 @@ came_first n a (Some s) first is =
 
 -- ---- the law
 
-acked_under : (o : Outgoing) (low : ℕ) (i : Incoming) (e : Counted) (named_is : Option Numbered) → IsOtherEnd o low i → slice_get o.sent e.0 ≡ Some (first_send e.1) → named i ≡ named_is
-    → confirms (highest_of o.n low (option_and_then (λ (a : Numbered). a.1.sn) named_is)) (listed i.came) e ≡ true → WasAckedUnder o i e.1 e.0
-acked_under o low i e None end sent is confirmed = absurd cc
-acked_under o low i e (Some a) end sent is confirmed =
+acked_under : (sent : List Sent) (o : Outgoing) (low : ℕ) (i : Incoming) (e : Counted) (named_is : Option Numbered) → IsOtherEnd o.n sent low i → slice_get sent e.0 ≡ Some (first_send e.1) → named i ≡ named_is
+    → confirms (highest_of o.n low (option_and_then (λ (a : Numbered). a.1.sn) named_is)) (listed i.came) e ≡ true → WasAckedUnder sent i e.1 e.0
+acked_under sent o low i e None end first_is is confirmed = absurd cc
+acked_under sent o low i e (Some a) end first_is is confirmed =
     let there = filter_within (λ (x : Numbered). is_first x.1) a (settled i) (last_within a _ is) in
     let a_came = front_within (λ x. not (contains x.0 i.unacked) && is_below (slice_get (gaps 0 i.came) 168) x.0) a i.came there.1 in
-    let first = came_first o.n a.1 (slice_get o.sent a.0) there.0 (all_within _ a i.came end.as_sent a_came) in
+    let first = came_first o.n a.1 (slice_get sent a.0) there.0 (all_within _ a i.came end.as_sent a_came) in
     let c = first.0 in
     let near = end.near a c is first.1.0 in
     let below = confirms_below (highest_of o.n low a.1.sn) (listed i.came) e confirmed in
     let top : below.0 ≡ c = highest_is o.n low c below.0 near.0 near.1 (ap (highest_of o.n low) (sym first.1.1) ∙ below.1.0) in
     elim (cases_lt a.0 e.0) [
-      | inl after ↦ absurd (omega (arith, top, below.1.1, end.rise a.0 e.0 c e.1 after first.1.0 sent))
+      | inl after ↦ absurd (omega (arith, top, below.1.1, end.rise a.0 e.0 c e.1 after first.1.0 first_is))
       | inr not_after ↦
           let acked = front_acked i a e.0 end.ascends there.1 not_after below.1.2 in
-          record { sent = sent; came = acked.0; acked = acked.1 }
+          record { sent_first = first_is; came = acked.0; acked = acked.1 }
     ]
 
--- A number that did not come, or was not acked, is never confirmed.
-pub only_acked : (o : Outgoing) (low : ℕ) (i : Incoming) (highest : Option ℕ) (lost : List Range) → IsOtherEnd o low i → AreFirstSends o.sent o.waiting → Status highest lost ≡ status_of i
-    → AllByRecursion (λ e. WasAckedUnder o i e.1 e.0) (confirmed_by o low highest lost)
-only_acked o low i highest lost end waits is =
-    let highest_eq : highest ≡ option_and_then (λ (a : Numbered). a.1.sn) (named i) = cc in
-    let lost_eq : lost ≡ listed i.came = cc in
-    rw (highest_eq, lost_eq) (all_filter (λ e. slice_get o.sent e.0 ≡ Some (first_send e.1)) _ _ o.waiting waits (λ e sent confirmed. acked_under o low i e (named i) end sent refl confirmed))
+-- a number that did not come, or was not acked, is never confirmed
+only_acked : (sent : List Sent) (o : Outgoing) (low : ℕ) (i : Incoming) → IsOtherEnd o.n sent low i → AreFirstSends sent o.waiting
+    → AllByRecursion (λ e. WasAckedUnder sent i e.1 e.0) (confirmed_by o low (option_and_then (λ (a : Numbered). a.1.sn) (named i)) (listed i.came))
+only_acked sent o low i end waits =
+    all_filter (λ e. slice_get sent e.0 ≡ Some (first_send e.1)) _ _ o.waiting waits (λ e first_is confirmed. acked_under sent o low i e (named i) end first_is refl confirmed)
 
 -- the same of the COUNTs
-pub counts_acked : (o : Outgoing) (low : ℕ) (i : Incoming) (f : Frame) → IsOtherEnd o low i → AreFirstSends o.sent o.waiting → f ≡ status_of i → AllByRecursion (WasAcked o i) (confirmed_of o low f)
-counts_acked o low i f end waits is =
-    rw is (all_map (λ (e : Counted). WasAckedUnder o i e.1 e.0) (WasAcked o i) (λ (e : Counted). e.1) _ (only_acked o low i _ _ end waits refl) (λ e under. (e.0, under)))
+pub counts_acked : (sent : List Sent) (o : Outgoing) (low : ℕ) (i : Incoming) (f : Frame) → IsOtherEnd o.n sent low i → AreFirstSends sent o.waiting → f ≡ status_of i → AllByRecursion (WasAcked sent i) (confirmed_of o low f)
+counts_acked sent o low i f end waits is =
+    rw is (all_map (λ (e : Counted). WasAckedUnder sent i e.1 e.0) (WasAcked sent i) (λ (e : Counted). e.1) _ (only_acked sent o low i end waits) (λ e under. (e.0, under)))
+
+-- ---- a status can be encoded
+
+rising_take : (n low : ℕ) (rs : List Range) → Rising low rs → Rising low (take n rs)
+rising_take zero low rs up = tt
+rising_take (suc n) low [] up = tt
+rising_take (suc n) low (r ∷ rs) up = (up.0, up.1, rising_take n (r.to + 1) rs up.2)
+
+take_len : (n : ℕ) (rs : List Range) → length (take n rs) ≤ n
+take_len zero rs = omega arith
+take_len (suc n) [] = omega arith
+take_len (suc n) (r ∷ rs) = omega (arith, take_len n rs)
+
+small_take : (n top : ℕ) (rs : List Range) → top ≤ 2 ^ 24 → AllByRecursion (λ (r : Range). r.to < top) rs → AllByRecursion (λ (r : Range). r.to < 2 ^ 24) (take n rs)
+small_take zero top rs le all = tt
+small_take (suc n) top [] le all = tt
+small_take (suc n) top (r ∷ rs) le all = (omega (arith, all.0), small_take n top rs le all.1)
+
+named_small : (i : Incoming) (named_is : Option Numbered) → named i ≡ named_is → AllByRecursion (λ (a : Numbered). IfSome a.1.sn (λ s. s < 2 ^ 18)) i.came → IfSome (option_and_then (λ (a : Numbered). a.1.sn) named_is) (λ s. s < 2 ^ 18)
+named_small i None is all = tt
+named_small i (Some a) is all =
+    let there = filter_within (λ (x : Numbered). is_first x.1) a (settled i) (last_within a _ is) in
+    all_within (λ (x : Numbered). IfSome x.1.sn (λ s. s < 2 ^ 18)) a i.came all (front_within (λ x. not (contains x.0 i.unacked) && is_below (slice_get (gaps 0 i.came) 168) x.0) a i.came there.1)
+
+pub status_writable : (i : Incoming) (firsts : List Numbered) (ends : ByEnd) (next : ℕ) → IsInboundState i.came i.unacked firsts ends next → IsWritable (status_of i)
+status_writable i firsts ends next state =
+    (named_small i (named i) refl state.sns, take_len 168 (gaps 0 i.came), (rising_take 168 0 (gaps 0 i.came) (gaps-rising 0 i.came state.ascends), small_take 168 (next_after 0 i.came) (gaps 0 i.came) state.small (gaps-end 0 i.came state.ascends)))

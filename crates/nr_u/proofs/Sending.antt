@@ -1,62 +1,54 @@
--- The first sends that wait, when a PDU is sent.
-use Rattle.std.proofs.Common.{◌≡◌, ℕ, zero, suc, ◌-◌, ◌<◌, ◌++◌, Bool, true, false, cond, List, [], ◌∷◌, length, Option, Some, None, refl, ap, ◌∙◌, subst, inl, inr, arith}
+-- What `Outbound` keeps, when a PDU is sent and when a frame comes.
+use Rattle.std.proofs.Common.{◌≡◌, ℕ, zero, suc, ◌+◌, ◌-◌, ◌<◌, ◌++◌, Bool, true, false, cond, List, [], ◌∷◌, length, Option, Some, None, is_some, refl, sym, ap, ◌∙◌, subst, inl, inr, arith}
 use Rattle.std.specs.Prelude.{filter, slice_get}
 use Rattle.std.specs.List.{AllByRecursion}
 use Rattle.std.specs.Ordering.{nat_cmp}
-use Rattle.std.specs.BTreeMap.{insert_entry}
-use Rattle.nr_u.specs.declared.outbound.Sent.{Sent}
-use Rattle.nr_u.specs.Outgoing.{Counted, noted}
-use Rattle.nr_u.specs.Ends.{first_send, AreFirstSends}
-use Rattle.nr_u.proofs.ByNumber.{cmp_tells}
-use Rattle.nr_u.specs.Waiting.{Climbs, IsNext, IsWaiting}
-use Rattle.nr_u.proofs.Law.{all_filter}
-use Rattle.nr_u.proofs.Taking.{climbs_filter}
-use Rattle.std.proofs.lemmas.Option.{slice_get_within}
+use Rattle.std.specs.BTreeMap.{insert_entry, is_at}
+use Rattle.std.specs.Map.{lookup, remove_entry}
+use Rattle.std.proofs.lemmas.List.Elements.{filter-append}
+use Rattle.nr_u.specs.Tunnel.Outgoing.{Counted, noted, is_open}
+use Rattle.nr_u.specs.Tunnel.Waiting.{Climbs, IsNext, AreGiven, ByNumber, Covers, IsOutboundState}
+use Rattle.nr_u.proofs.ByNumber.{cmp_tells, remove-insert}
+use Rattle.nr_u.proofs.Filters.{given_filter, sorted_none}
+use Rattle.nr_u.proofs.Confirming.{climbs_filter}
 
-get_before : {X : Type 0} (xs : List X) (x v : X) (k : ℕ) → slice_get xs k ≡ Some v → slice_get (xs ++ x ∷ []) k ≡ Some v
-get_before [] x v k is = absurd cc
-get_before (y ∷ ys) x v zero is = is
-get_before (y ∷ ys) x v (suc k) is = get_before ys x v k is
+-- ---- a number that is new
 
-get_last : {X : Type 0} (xs : List X) (x : X) → slice_get (xs ++ x ∷ []) (length xs) ≡ Some x
-get_last [] x = refl
-get_last (y ∷ ys) x = get_last ys x
+pub given_next : (next : ℕ) (es : List Counted) → AreGiven next es → AreGiven (next + 1) es
+given_next next [] all = tt
+given_next next (e ∷ es) all = (omega (arith, all.0), given_next next es all.1)
 
-firsts_push : (sent : List Sent) (s : Sent) (es : List Counted) → AreFirstSends sent es → AreFirstSends (sent ++ s ∷ []) es
-firsts_push sent s [] all = tt
-firsts_push sent s (e ∷ es) all = (get_before sent s (first_send e.1) e.0 all.0, firsts_push sent s es all.1)
-
-firsts_filter : (sent : List Sent) (p : Counted → Bool) (es : List Counted) → AreFirstSends sent es → AreFirstSends sent (filter p es)
-firsts_filter sent p es all = all_filter _ _ p es all (λ e is passes. is)
-
-all_insert : (P : Counted → Type 0) (k v : ℕ) (es : List Counted) → P (k, v) → AllByRecursion P es → AllByRecursion P (insert_entry nat_cmp es k v)
-all_insert P k v [] here all = (here, tt)
-all_insert P k v (e ∷ es) here all =
-    elim (cmp_tells k e.0) [
-      | inl less ↦ rw less.0 (here, all)
-      | inr rest ↦ elim rest [
-        | inl same ↦ rw same.0 (subst (λ (x : ℕ). P (x, v)) same.1 here, all.1)
-        | inr more ↦ rw more.0 (all.0, all_insert P k v es here all.1)
-      ]
-    ]
-
-firsts_noted : (sent : List Sent) (count : Option ℕ) (repeat : Bool) (es : List Counted) → AreFirstSends sent es
-    → AreFirstSends (sent ++ (record { count = count; repeat = repeat }) ∷ []) (cond repeat es (noted count (length sent) es))
-firsts_noted sent count true es all = firsts_push sent _ es all
-firsts_noted sent None false es all = firsts_push sent _ es all
-firsts_noted sent (Some c) false es all = all_insert _ (length sent) c es (get_last sent (first_send c)) (firsts_push sent (first_send c) es all)
-
--- ---- the COUNTs that wait do not fall
-
--- each number that waits was given before
-numbers_before : (sent : List Sent) (es : List Counted) → AreFirstSends sent es → AllByRecursion (λ (e : Counted). e.0 < length sent) es
-numbers_before sent [] all = tt
-numbers_before sent (e ∷ es) all = (slice_get_within sent e.0 (first_send e.1) all.0, numbers_before sent es all.1)
-
--- a number past all of these goes in at the end
-insert_last : (k v : ℕ) (es : List Counted) → AllByRecursion (λ (e : Counted). e.0 < k) es → insert_entry nat_cmp es k v ≡ es ++ (k, v) ∷ []
+-- it goes in at the end
+pub insert_last : (k v : ℕ) (es : List Counted) → AreGiven k es → insert_entry nat_cmp es k v ≡ es ++ (k, v) ∷ []
 insert_last k v [] all = refl
 insert_last k v (e ∷ es) all = grind (arith, cmp_tells k e.0, insert_last k v es all.1, all.0)
+
+given_push : (k v : ℕ) (es : List Counted) → AreGiven k es → AreGiven (k + 1) (es ++ (k, v) ∷ [])
+given_push k v [] all = (omega arith, tt)
+given_push k v (e ∷ es) all = (omega (arith, all.0), given_push k v es all.1)
+
+given_noted : (next : ℕ) (count : Option ℕ) (es : List Counted) → AreGiven next es → AreGiven (next + 1) (noted count next es)
+given_noted next None es all = given_next next es all
+given_noted next (Some c) es all = rw (insert_last next c es all) (given_push next c es all)
+
+given_first : (next : ℕ) (count : Option ℕ) (repeat : Bool) (es : List Counted) → AreGiven next es → AreGiven (next + 1) (cond repeat es (noted count next es))
+given_first next count true es all = given_next next es all
+given_first next count false es all = given_noted next count es all
+
+absent : (k : ℕ) (es : List Counted) → AreGiven k es → is_some (lookup (is_at (nat_cmp k)) es) ≡ false
+absent k [] all = refl
+absent k (e ∷ es) all = grind (arith, cmp_tells k e.0, absent k es all.1, all.0)
+
+remove_absent : (k : ℕ) (es : List Counted) → AreGiven k es → remove_entry (is_at (nat_cmp k)) es ≡ es
+remove_absent k [] all = refl
+remove_absent k (e ∷ es) all = grind (arith, cmp_tells k e.0, remove_absent k es all.1, all.0)
+
+-- put in, and taken out again
+pub noted_back : (k : ℕ) (count : Option ℕ) (es : List Counted) → AreGiven k es → remove_entry (is_at (nat_cmp k)) (noted count k es) ≡ es
+noted_back k None es all = remove_absent k es all
+noted_back k (Some c) es all = remove-insert k c es (absent k es all)
+
+-- ---- the COUNTs that wait do not fall
 
 climbs_push : (low k v : ℕ) (e : Counted) (es : List Counted) → Climbs low (e ∷ es) → IsNext (e ∷ es) v → Climbs low ((e ∷ es) ++ (k, v) ∷ [])
 climbs_push low k v e [] up next = (up.0, (next e refl, tt))
@@ -69,24 +61,82 @@ climbs_last : (k v : ℕ) (es : List Counted) → Climbs 0 es → IsNext es v �
 climbs_last k v [] up next = (omega arith, tt)
 climbs_last k v (e ∷ es) up next = climbs_push 0 k v e es up next
 
-climbs_noted : (sent : List Sent) (count : Option ℕ) (repeat : Bool) (es : List Counted) → AreFirstSends sent es → Climbs 0 es → (repeat ≡ false → (c : ℕ) → count ≡ Some c → IsNext es c)
-    → Climbs 0 (cond repeat es (noted count (length sent) es))
-climbs_noted sent count true es firsts up next = up
-climbs_noted sent None false es firsts up next = up
-climbs_noted sent (Some c) false es firsts up next = rw (insert_last (length sent) c es (numbers_before sent es firsts)) (climbs_last (length sent) c es up (next refl c refl))
+climbs_first : (next : ℕ) (count : Option ℕ) (repeat : Bool) (es : List Counted) → AreGiven next es → Climbs 0 es → (repeat ≡ false → (c : ℕ) → count ≡ Some c → IsNext es c) → Climbs 0 (cond repeat es (noted count next es))
+climbs_first next count true es all up is_next = up
+climbs_first next None false es all up is_next = up
+climbs_first next (Some c) false es all up is_next = rw (insert_last next c es all) (climbs_last next c es up (is_next refl c refl))
 
-pub waiting_push : (sent : List Sent) (s : Sent) (es : List Counted) (in_order : Bool) → IsWaiting sent es in_order → IsWaiting (sent ++ s ∷ []) es in_order
-waiting_push sent s es in_order waits = record { firsts = firsts_push sent s es waits.firsts; climbs = waits.climbs }
+-- ---- what is open is to be looked at
 
-pub waiting_noted : (sent : List Sent) (count : Option ℕ) (repeat : Bool) (es : List Counted) (before after : Bool) → IsWaiting sent es before → (after ≡ true → before ≡ true) → (after ≡ true → repeat ≡ false → (c : ℕ) → count ≡ Some c → IsNext es c)
-    → IsWaiting (sent ++ (record { count = count; repeat = repeat }) ∷ []) (cond repeat es (noted count (length sent) es)) after
-waiting_noted sent count repeat es before after waits kept next = record {
-  firsts = firsts_noted sent count repeat es waits.firsts;
-  climbs = λ ordered. climbs_noted sent count repeat es waits.firsts (waits.climbs (kept ordered)) (next ordered);
+covers_noted : (low : ℕ) (confirmed : List ℕ) (next : ℕ) (count : Option ℕ) (askable unasked : List Counted) → AreGiven next askable → AreGiven next unasked → Covers low confirmed askable unasked
+    → Covers low confirmed (noted count next askable) (noted count next unasked)
+covers_noted low confirmed next None askable unasked given given' covers = covers
+covers_noted low confirmed next (Some c) askable unasked given given' covers =
+    let may : Counted → Bool = λ e. is_open low confirmed e.1 in
+    rw (insert_last next c askable given, insert_last next c unasked given')
+    (filter-append may askable ((next, c) ∷ []) ∙ ap (λ (x : List Counted). x ++ filter may ((next, c) ∷ [])) covers ∙ sym (filter-append may unasked ((next, c) ∷ [])))
+
+-- ---- the state
+
+-- a number was given
+pub state_next : (next : ℕ) (waiting unasked askable : List Counted) (confirmed : List ℕ) (in_order : Bool) (reference : ℕ) → IsOutboundState next waiting unasked askable confirmed in_order reference
+    → IsOutboundState (next + 1) waiting unasked askable confirmed in_order reference
+state_next next waiting unasked askable confirmed in_order reference state = record {
+  waiting_given = given_next next waiting state.waiting_given;
+  unasked_given = given_next next unasked state.unasked_given;
+  askable_given = given_next next askable state.askable_given;
+  sorted = state.sorted;
+  climbs = state.climbs;
+  covers = state.covers;
 }
 
-pub waiting_filter : (sent : List Sent) (p : Counted → Bool) (es : List Counted) (in_order : Bool) → IsWaiting sent es in_order → IsWaiting sent (filter p es) in_order
-waiting_filter sent p es in_order waits = record {
-  firsts = firsts_filter sent p es waits.firsts;
-  climbs = λ ordered. climbs_filter p 0 es (waits.climbs ordered);
+-- the first send was noted
+pub state_first : (next : ℕ) (waiting unasked askable : List Counted) (confirmed : List ℕ) (before after : Bool) (reference : ℕ) (count : Option ℕ) (repeat : Bool) → IsOutboundState next waiting unasked askable confirmed before reference
+    → (after ≡ true → before ≡ true) → (after ≡ true → repeat ≡ false → (c : ℕ) → count ≡ Some c → IsNext waiting c)
+    → IsOutboundState (next + 1) (cond repeat waiting (noted count next waiting)) unasked askable confirmed after reference
+state_first next waiting unasked askable confirmed before after reference count repeat state kept is_next = record {
+  waiting_given = given_first next count repeat waiting state.waiting_given;
+  unasked_given = given_next next unasked state.unasked_given;
+  askable_given = given_next next askable state.askable_given;
+  sorted = state.sorted;
+  climbs = λ ordered. climbs_first next count repeat waiting state.waiting_given (state.climbs (kept ordered)) (is_next ordered);
+  covers = state.covers;
 }
+
+-- the PDU was noted
+pub state_sent : (next : ℕ) (waiting unasked askable : List Counted) (confirmed : List ℕ) (before after : Bool) (reference : ℕ) (count : Option ℕ) (repeat : Bool) → IsOutboundState next waiting unasked askable confirmed before reference
+    → (after ≡ true → before ≡ true) → (after ≡ true → repeat ≡ false → (c : ℕ) → count ≡ Some c → IsNext waiting c) → ByNumber (noted count next unasked)
+    → IsOutboundState (next + 1) (cond repeat waiting (noted count next waiting)) (noted count next unasked) (noted count next askable) confirmed after reference
+state_sent next waiting unasked askable confirmed before after reference count repeat state kept is_next sorted =
+    let first = state_first next waiting unasked askable confirmed before after reference count repeat state kept is_next in
+    record {
+      waiting_given = first.waiting_given;
+      unasked_given = given_noted next count unasked state.unasked_given;
+      askable_given = given_noted next count askable state.askable_given;
+      sorted = sorted;
+      climbs = first.climbs;
+      covers = covers_noted reference confirmed next count askable unasked state.askable_given state.unasked_given state.covers;
+    }
+
+-- a frame took out some of the first sends
+pub state_frame : (next : ℕ) (waiting waiting' unasked unasked' askable askable' : List Counted) (confirmed confirmed' : List ℕ) (in_order : Bool) (reference reference' : ℕ) (p : Counted → Bool) → IsOutboundState next waiting unasked askable confirmed in_order reference
+    → waiting' ≡ filter p waiting → AreGiven next unasked' → AreGiven next askable' → ByNumber unasked' → Covers reference' confirmed' askable' unasked' → IsOutboundState next waiting' unasked' askable' confirmed' in_order reference'
+state_frame next waiting waiting' unasked unasked' askable askable' confirmed confirmed' in_order reference reference' p state waiting_is given given' sorted covers = record {
+  waiting_given = rw waiting_is (given_filter next p waiting state.waiting_given);
+  unasked_given = given;
+  askable_given = given';
+  sorted = sorted;
+  climbs = λ ordered. rw waiting_is (climbs_filter p 0 waiting (state.climbs ordered));
+  covers = covers;
+}
+
+-- nothing was sent
+pub state_none : (waiting unasked askable : List Counted) (confirmed : List ℕ) → waiting ≡ [] → unasked ≡ [] → askable ≡ [] → IsOutboundState 0 waiting unasked askable confirmed true 0
+state_none waiting unasked askable confirmed waiting_is unasked_is askable_is = rw (waiting_is, unasked_is, askable_is) (record {
+  waiting_given = tt;
+  unasked_given = tt;
+  askable_given = tt;
+  sorted = sorted_none;
+  climbs = λ ordered. tt;
+  covers = refl;
+})

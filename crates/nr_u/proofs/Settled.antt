@@ -1,6 +1,6 @@
 -- The front that a status looks at is what lies below a limit.
 use Rattle.std.proofs.Common.{◌≡◌, ℕ, suc, ◌+◌, ◌<◌, ◌≤◌, ◌^◌, ◌++◌, ◌&&◌, Bool, true, false, not, ltb, List, [], ◌∷◌, Option, Some, None, refl, sym, ap, ◌∙◌, inl, inr, arith}
-use Rattle.std.specs.Prelude.{min, filter, take_while, option_map, option_and_then, slice_get, ◌≢◌}
+use Rattle.std.specs.Prelude.{min, map, filter, take_while, option_map, option_and_then, slice_get, ◌≢◌}
 use Rattle.std.specs.List.{prefix_len}
 use Rattle.std.specs.Ordering.{nat_cmp}
 use Rattle.std.specs.declared.ops.Bound.TheVariants.{Unbounded, Excluded}
@@ -8,9 +8,9 @@ use Rattle.std.specs.BTreeMap.Range.{entries_between, range_contains}
 use Rattle.std.proofs.lemmas.Bool.{le-ltb, lt-ltb, cases_lt, false≢true}
 use Rattle.std.proofs.lemmas.Bool.Decides.{nat_tests}
 use Rattle.nr_u.specs.declared.frame.Range.{Range}
-use Rattle.nr_u.specs.declared.inbound.Arrival.{Arrival}
-use Rattle.nr_u.specs.Incoming.{Numbered, Incoming, Ascends, has, contains, gaps, is_below, is_first, last, settled, named}
-use Rattle.nr_u.specs.Kept.{next_after, from_or, IsFirstOf, IsKept}
+use Rattle.nr_u.specs.declared.tunnel.inbound.Arrival.{Arrival}
+use Rattle.nr_u.specs.Tunnel.Incoming.{Numbered, Incoming, Ascends, has, contains, gaps, is_below, is_first, last, settled, named}
+use Rattle.nr_u.specs.Tunnel.Kept.{ByEnd, next_after, gap_range, from_or, IsFirstOf, IsInboundState}
 use Rattle.nr_u.proofs.ByNumber.{cmp_tells, Came, next_after-above}
 
 -- ---- the last of a list
@@ -144,8 +144,8 @@ told_none f None is = refl
 told_none f (Some n) is = absurd cc
 
 -- what `Inbound` finds is the PDU that a status names
-pub finds_named : (i : Incoming) (firsts : List Numbered) (missing : List Range) (next first unlisted limit : ℕ) (found : Option Arrival) → IsKept i.came i.unacked firsts missing next → IsFirstOf i.unacked first
-    → unlisted ≡ from_or (2 ^ 24) (slice_get missing 168) → limit ≡ min first unlisted → found ≡ option_map (λ (a : Numbered). a.1) (last (filter (λ a. ltb a.0 limit) firsts))
+pub finds_named : (i : Incoming) (firsts : List Numbered) (ends : ByEnd) (next first unlisted limit : ℕ) (found : Option Arrival) → IsInboundState i.came i.unacked firsts ends next → IsFirstOf i.unacked first
+    → unlisted ≡ from_or (2 ^ 24) (slice_get (map gap_range ends) 168) → limit ≡ min first unlisted → found ≡ option_map (λ (a : Numbered). a.1) (last (filter (λ a. ltb a.0 limit) firsts))
     → found ≡ option_map (λ (a : Numbered). a.1) (named i)
-finds_named i firsts missing next first unlisted limit found kept is unlisted_is limit_is found_is =
-    found_is ∙ rw (limit_is, unlisted_is) (ap (option_map (λ (a : Numbered). a.1)) (sym (named-last i firsts missing first kept.ascends kept.small kept.unacked_came is kept.firsts_are kept.gaps_are)))
+finds_named i firsts ends next first unlisted limit found state is unlisted_is limit_is found_is =
+    found_is ∙ rw (limit_is, unlisted_is) (ap (option_map (λ (a : Numbered). a.1)) (sym (named-last i firsts (map gap_range ends) first state.ascends state.small state.unacked_came is state.firsts_are state.gaps_are)))

@@ -1,10 +1,11 @@
 -- What is written is the frame, and fits a container.
-use Rattle.std.proofs.Common.{ℕ, ◌-◌, ◌∷◌, ◌%◌, ◌≤◌, true, false, length, Some, None, refl, arith}
+use Rattle.std.proofs.Common.{◌≡◌, ℕ, ◌+◌, ◌*◌, ◌-◌, ◌∷◌, ◌%◌, ◌≤◌, true, false, List, length, Option, Some, None, is_some, refl, arith}
 use Rattle.std.specs.Prelude.{replicate}
 use Rattle.std.proofs.lemmas.List.{length-append, length-replicate}
+use Rattle.nr_u.specs.declared.frame.Range.{Range}
 use Rattle.nr_u.specs.declared.frame.Frame.{Frame}
 use Rattle.nr_u.specs.declared.frame.Frame.TheVariants.{User, Status}
-use Rattle.nr_u.specs.Frames.{fields, first_octet, written, IsFirst, Fits, IsWritable, IsFrame}
+use Rattle.nr_u.specs.Frames.{flag, fields, first_octet, written, IsFirst, Fits, IsWritable, IsFrame}
 use Rattle.nr_u.proofs.Grammar.{length-ranges}
 
 first_is : (f : Frame) → IsFirst (first_octet f) f
@@ -41,3 +42,13 @@ written_is_frame f can =
       fits = fits f can;
       short = omega (arith, length-replicate {A = ℕ} pad 0);
     }
+
+-- a status has two octets, three for a highest sequence number, and six a range
+pub status_length : (highest : Option ℕ) (lost : List Range) → length (first_octet (Status highest lost) ∷ fields (Status highest lost)) ≡ 2 + 3 * flag (is_some highest) + 6 * length lost
+status_length None lost = omega (arith, length-ranges lost)
+status_length (Some h) lost = omega (arith, length-ranges lost)
+
+pub written_length : (f : Frame) (bare : ℕ) → bare ≡ length (first_octet f ∷ fields f) → bare + (6 - bare % 4) % 4 ≡ length (written f)
+written_length f bare is =
+    let pad = (6 - length (first_octet f ∷ fields f) % 4) % 4 in
+    rw is (omega (arith, length-append (first_octet f ∷ fields f) (replicate pad 0), length-replicate {A = ℕ} pad 0))

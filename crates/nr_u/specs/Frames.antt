@@ -1,4 +1,4 @@
--- The frames of the NR user plane protocol, octet by octet, after TS 38.425, clause 5.5.
+-- The frames of a tunnel, octet by octet: this product's own layout, modelled on TS 38.425, 5.5.2.
 use Rattle.std.specs.Prelude.{◌≡◌, ℕ, ◌+◌, ◌-◌, ◌*◌, ◌/◌, ◌%◌, ◌^◌, ◌<◌, ◌≤◌, ◌==◌, Bool, if◌then◌else◌, List, [], ◌∷◌, ◌++◌, length, drop, replicate, Option, Some, None, is_some, IfSome, ⊤}
 use Rattle.std.specs.List.{flat_map, AllByRecursion}
 use Rattle.std.specs.Int.{w32, to_be_bytes, bit_at}

@@ -1,10 +1,5 @@
 -- the definitions that contracts cite
 pub mod Frames
 pub mod Faults
-pub mod Incoming
-pub mod Kept
-pub mod Delivery
-pub mod Outgoing
-pub mod Verdicts
-pub mod Ends
-pub mod Waiting
+pub mod Reading
+pub mod Tunnel

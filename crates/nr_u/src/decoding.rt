@@ -163,7 +163,7 @@ fn read(alloc: Global, input: &[u8]) -> Result<Frame, NruErr>
     }
 }
 
-/// The frame that the octets are, with 0 to 3 octets of padding after it (TS 38.425, clause 5.5).
+/// The frame that the octets are, with 0 to 3 octets of padding after it.
 /// An error names the first check that fails, and its place.
 pub fn decode(alloc: Global, input: &[u8]) -> Result<Frame, NruErr>
     ensures frame { IfOk result (IsFrame input.now) }

@@ -1,4 +1,4 @@
-//! Writing a frame.
+//! Writing a frame, into one buffer of the length that the frame has.
 
 ghost use Rattle.std.specs.Prelude.{◌≡◌, ◌∷◌, ◌++◌, ◌+◌, ◌-◌, ◌*◌, ◌%◌, ◌≤◌, ◌<◌, ◌^◌, [], length, replicate, IfOk, OnOk};
 ghost use Rattle.std.specs.List.{flat_map, AllByRecursion};
@@ -16,39 +16,40 @@ fn flag(value: bool) -> u8
 }
 
 /// Writes a number in three octets.
-fn put_number(out: &mut Octets, n: u32) -> Result<(), Memory>
-    ensures { OnOk result (out.new ≡ out.old ++ number n) }
+fn write_number(out: &mut Vec<u8>, n: u32) -> Result<(), Memory>
+    ensures { OnOk result (out.new.items ≡ out.old.items ++ number n) }
 {
     let [_, a, b, c] = n.to_be_bytes();
     out.push(a)?;
     out.push(b)?;
-    out.push(c)
+    out.push(c)?;
+    Ok(())
 }
 
 /// Writes a number that may be absent.
-fn put_optional(out: &mut Octets, n: Option<u32>) -> Result<(), Memory>
-    ensures { OnOk result (out.new ≡ out.old ++ optional n) }
+fn write_optional(out: &mut Vec<u8>, n: Option<u32>) -> Result<(), Memory>
+    ensures { OnOk result (out.new.items ≡ out.old.items ++ optional n) }
 {
     match n {
         None => Ok(()),
-        Some(n) => put_number(out, n),
+        Some(n) => write_number(out, n),
     }
 }
 
 /// Writes ranges, six octets each.
-fn put_ranges(out: &mut Octets, ranges: &[Range]) -> Result<(), Memory>
-    ensures { OnOk result (out.new ≡ out.old ++ flat_map range ranges.now) }
+fn write_ranges(out: &mut Vec<u8>, ranges: &[Range]) -> Result<(), Memory>
+    ensures { OnOk result (out.new.items ≡ out.old.items ++ flat_map range ranges.now) }
 {
     for range in ranges {
-        put_number(out, range.from)?;
-        put_number(out, range.to)?;
+        write_number(out, range.from)?;
+        write_number(out, range.to)?;
     }
     Ok(())
 }
 
 /// Writes zeros until the octets are 4k - 2.
-fn pad(out: &mut Octets) -> Result<(), Memory>
-    ensures { OnOk result (out.new ≡ padded out.old) }
+fn pad(out: &mut Vec<u8>) -> Result<(), Memory>
+    ensures { OnOk result (out.new.items ≡ padded out.old.items) }
 {
     for _ in 0..(6 - out.len() % 4) % 4 {
         out.push(0)?;
@@ -57,9 +58,9 @@ fn pad(out: &mut Octets) -> Result<(), Memory>
 }
 
 /// Writes a frame without its padding.
-fn put_frame(out: &mut Octets, f: &Frame) -> Result<(), Memory>
+fn write_frame(out: &mut Vec<u8>, f: &Frame) -> Result<(), Memory>
     requires { IsWritable f.now }
-    ensures { OnOk result (out.new ≡ out.old ++ first_octet f.now ∷ fields f.now) }
+    ensures { OnOk result (out.new.items ≡ out.old.items ++ first_octet f.now ∷ fields f.now) }
 {
     match f {
         Frame::User {
@@ -68,21 +69,42 @@ fn put_frame(out: &mut Octets, f: &Frame) -> Result<(), Memory>
             repeat,
         } => {
             out.push(flag(*user) + 2 * flag(*repeat))?;
-            put_number(out, *number)
+            write_number(out, *number)
         }
         Frame::Status { highest, lost } => {
             out.push(16 + flag(highest.is_some()))?;
             out.push(lost.len() as u8)?;
-            put_optional(out, *highest)?;
-            put_ranges(out, lost.as_slice())
+            write_optional(out, *highest)?;
+            write_ranges(out, lost.as_slice())
         }
     }
 }
 
-/// The octets of a frame, padded with zeros to 4k - 2 of them, as a container takes them (TS 38.425,
-/// clause 5.5; TS 29.281, clause 5.2.2.6). Numbers and ranges have 24 bits, a highest sequence number
-/// has 18, and there are at most 168 ranges: each ends where it begins or above, and begins above
-/// the end of the one before.
+/// How many octets the frame has, without its padding.
+fn bare_len(f: &Frame) -> usize
+    requires { IsWritable f.now }
+    ensures { result ≡ length (first_octet f.now ∷ fields f.now) }
+{
+    match f {
+        Frame::User { .. } => 4,
+        Frame::Status { highest, lost } => {
+            2 + 3 * flag(highest.is_some()) as usize + 6 * lost.len()
+        }
+    }
+}
+
+/// How many octets the frame has, with its padding.
+fn written_len(f: &Frame) -> usize
+    requires { IsWritable f.now }
+    ensures { result ≡ length (written f.now) }
+{
+    let bare = bare_len(f);
+    bare + (6 - bare % 4) % 4
+}
+
+/// The octets of a frame, padded with zeros to 4k - 2 of them, as a container takes them (TS 29.281,
+/// 5.2.2.6). Numbers and ranges have 24 bits, a highest sequence number has 18, and there are at
+/// most 168 ranges: each ends where it begins or above, and begins above the end of the one before.
 pub fn encode(alloc: Global, f: &Frame) -> Result<Octets, Memory>
     requires { IsWritable f.now }
     // What is written is this frame, so `decode` gives it back.
@@ -91,8 +113,8 @@ pub fn encode(alloc: Global, f: &Frame) -> Result<Octets, Memory>
     ensures whole { IfOk result (λ octets. length octets % 4 ≡ 2) }
     ensures fits { IfOk result (λ octets. length octets ≤ 1018) }
 {
-    let mut out = Octets::new(alloc);
-    put_frame(&mut out, f)?;
+    let mut out = Vec::with_capacity(alloc, written_len(f))?;
+    write_frame(&mut out, f)?;
     pad(&mut out)?;
-    Ok(out)
+    Ok(Octets::from_vec(out))
 }

@@ -15,7 +15,7 @@ pub struct Range {
     pub to: u32,
 }
 
-/// A frame of the NR user plane protocol (TS 38.425, clause 5.5).
+/// A frame of a tunnel.
 #[derive(Debug, Drop)]
 pub enum Frame {
     /// DL USER DATA: the number in the tunnel (24 bits), whether user data is with it, and whether

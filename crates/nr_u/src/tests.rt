@@ -2,10 +2,16 @@ use super::*;
 use dc_base::{Seq, SnLen, Tag};
 use std::test::Fail;
 
+/// Numbers 0 to 0 lost, highest 1.
 const LOST_0: [u8; 14] = [0x11, 1, 0, 0, 1, 0, 0, 0, 0, 0, 0, 0, 0, 0];
 
+/// Numbers 1 to 1 lost, highest 0.
+const LOST_1_NAMES_0: [u8; 14] = [0x11, 1, 0, 0, 0, 0, 0, 1, 0, 0, 1, 0, 0, 0];
+
+/// Numbers 1 to 1 lost, highest 2.
 const LOST_1: [u8; 14] = [0x11, 1, 0, 0, 2, 0, 0, 1, 0, 0, 1, 0, 0, 0];
 
+/// Number 0, with user data, not sent again.
 const USER_0: [u8; 6] = [1, 0, 0, 0, 0, 0];
 
 #[test]
@@ -92,41 +98,110 @@ fn faults(rt: HostRuntime) {
     }
 }
 
-#[tactic(auto, unfolding(dc_base::specs::Count::modulus))]
+#[tactic(auto, using(crate::proofs::Numbers::fits_each))]
 #[test]
 fn the_second_of_three_is_lost(rt: HostRuntime) {
-    let mut sent = Outbound::new(rt.alloc(), SnLen::S12);
-    let first = sent.sent(Some(0), false).expect(&rt, "memory");
-    let second = sent.sent(Some(1), false).expect(&rt, "memory");
-    let third = sent.sent(Some(2), false).expect(&rt, "memory");
-    assert_eq!(rt; (first, second, third), (0, 1, 2));
+    let early: &[u32] = &[0];
+    let late: &[u32] = &[0, 2];
+    // whether the third was acked; the tag; the octets; what is confirmed
+    let rows = [(false, 0, LOST_1_NAMES_0, early), (true, 2, LOST_1, late)];
+    for (acked, tag, octets, confirmed) in rows {
+        let mut sent = Outbound::new(rt.alloc(), SnLen::S12);
+        assert_eq!(rt; sent.sent(Some(0), false), Ok(0));
+        assert_eq!(rt; sent.sent(Some(1), false), Ok(1));
+        assert_eq!(rt; sent.sent(Some(2), false), Ok(2));
 
+        let mut host = Inbound::new(rt.alloc(), SnLen::S12);
+        assert_eq!(rt; host.came(0, Some(0), false, Tag::count(0)), Ok(true));
+        assert_eq!(rt; host.came(2, Some(2), false, Tag::count(2)), Ok(true));
+        assert_eq!(rt; host.came(2, Some(2), false, Tag::count(2)), Ok(false));
+        host.acked(0);
+        host.acked(1);
+        if acked {
+            host.acked(2);
+        }
+        let (f, t) = host.status().expect(&rt, "memory");
+        assert_eq!(rt; t, Tag::count(tag));
+        let written = encode(rt.alloc(), &f).expect(&rt, "memory");
+        assert_eq!(rt; written.as_slice(), octets.as_slice());
+
+        let verdict = sent.on_status(0, &f).expect(&rt, "memory");
+        assert_eq!(rt; verdict.confirmed.as_slice(), confirmed);
+        assert_eq!(rt; verdict.again.as_slice(), [1].as_slice());
+        let verdict = sent.on_status(0, &f).expect(&rt, "memory");
+        assert_eq!(rt; (verdict.confirmed.len(), verdict.again.len()), (0, 0));
+    }
+}
+
+/// Number 0 is a control PDU, 1 a data PDU that is sent again, 2 one that is sent for the first time.
+#[tactic(auto, using(crate::proofs::Numbers::fits_each))]
+#[test]
+fn control_pdus_and_repeats(rt: HostRuntime) {
+    let mut host = Inbound::new(rt.alloc(), SnLen::S18);
+    assert_eq!(rt; host.came(0, None, false, Tag::none()), Ok(true));
+    assert_eq!(rt; host.came(1, Some(5), true, Tag::count(5)), Ok(true));
+    assert_eq!(rt; host.came(2, Some(7), false, Tag::count(7)), Ok(true));
+    // the number that is acked; the tag; the octets
+    let rows: [(u32, Tag, &[u8]); 3] = [
+        (0, Tag::none(), &[0x10, 0]),
+        (1, Tag::none(), &[0x10, 0]),
+        (2, Tag::count(7), &[0x11, 0, 0, 0, 7, 0]),
+    ];
+    for (number, tag, octets) in rows {
+        host.acked(number);
+        let (f, t) = host.status().expect(&rt, "memory");
+        assert_eq!(rt; t, tag);
+        let written = encode(rt.alloc(), &f).expect(&rt, "memory");
+        assert_eq!(rt; written.as_slice(), octets);
+    }
+
+    let mut sent = Outbound::new(rt.alloc(), SnLen::S18);
+    assert_eq!(rt; sent.sent(None, false), Ok(0));
+    assert_eq!(rt; sent.sent(Some(5), true), Ok(1));
+    assert_eq!(rt; sent.sent(Some(7), false), Ok(2));
+    // the reference; the octets; what is confirmed and asked for again: no control PDU, nothing below the
+    // reference, no repeat by a status, nothing twice
+    let rows: [(u32, &[u8], &[u32], &[u32]); 4] = [
+        (6, &[0x10, 1, 0, 0, 0, 0, 0, 1], &[], &[]),
+        (5, &[0x10, 1, 0, 0, 0, 0, 0, 1], &[], &[5]),
+        (5, &[0x10, 1, 0, 0, 0, 0, 0, 1], &[], &[]),
+        (5, &[0x11, 0, 0, 0, 7], &[7], &[]),
+    ];
+    for (low, octets, confirmed, again) in rows {
+        let f = decode(rt.alloc(), octets).expect(&rt, "a frame");
+        let verdict = sent.on_status(low, &f).expect(&rt, "memory");
+        assert_eq!(rt; verdict.confirmed.as_slice(), confirmed);
+        assert_eq!(rt; verdict.again.as_slice(), again);
+    }
+}
+
+/// Of the numbers to 337 every other came and was acked.
+#[tactic(auto, using(crate::proofs::Numbers::fits_each))]
+#[test]
+fn more_gaps_than_a_status_lists(rt: HostRuntime) {
     let mut host = Inbound::new(rt.alloc(), SnLen::S12);
-    assert!(rt;
-        host.came(0, Some(0), false, Tag::count(0))
-            .expect(&rt, "memory")
-    );
-    assert!(rt;
-        host.came(2, Some(2), false, Tag::count(2))
-            .expect(&rt, "memory")
-    );
-    host.acked(0);
-    host.acked(1);
-    let (early, _) = host.status().expect(&rt, "memory");
-    if let Frame::Status { highest, .. } = &early {
-        assert_eq!(rt; *highest, Some(0));
+    for k in 0..169 {
+        let number = 2 * k + 1;
+        assert_eq!(rt; host.came(number, Some(number), false, Tag::count(number)), Ok(true));
+        host.acked(number);
     }
-    host.acked(2);
-    let (f, tag) = host.status().expect(&rt, "memory");
-    assert_eq!(rt; tag, Tag::count(2));
-    if let Frame::Status { highest, lost } = &f {
-        assert_eq!(rt; *highest, Some(2));
-        assert_eq!(rt; lost.as_slice(), [Range { from: 1, to: 1 }].as_slice());
+    // the number that comes next; the tag; octets with the highest and the first listed, and with the last
+    // listed: 168 of the 169 gaps while there are so many, and then all
+    let rows: [(Option<u32>, u32, [u8; 8], [u8; 7]); 2] = [
+        (None, 335, [0x11, 168, 0, 1, 79, 0, 0, 0], [0, 1, 78, 0, 1, 78, 0]),
+        (Some(0), 337, [0x11, 168, 0, 1, 81, 0, 0, 2], [0, 1, 80, 0, 1, 80, 0]),
+    ];
+    for (number, named, front, back) in rows {
+        if let Some(number) = number {
+            assert_eq!(rt; host.came(number, Some(number), false, Tag::count(number)), Ok(true));
+            host.acked(number);
+        }
+        let (f, tag) = host.status().expect(&rt, "memory");
+        assert_eq!(rt; tag, Tag::count(named));
+        let written = encode(rt.alloc(), &f).expect(&rt, "memory");
+        assert_eq!(rt; written.len(), 1014);
+        let (first, rest) = written.as_slice().split_at(8);
+        assert_eq!(rt; first, front.as_slice());
+        assert_eq!(rt; rest.split_at(999).1, back.as_slice());
     }
-
-    let verdict = sent.on_status(0, &f).expect(&rt, "memory");
-    assert_eq!(rt; verdict.confirmed.as_slice(), [0, 2].as_slice());
-    assert_eq!(rt; verdict.again.as_slice(), [1].as_slice());
-    let verdict = sent.on_status(0, &f).expect(&rt, "memory");
-    assert_eq!(rt; verdict.again.len(), 0);
 }

@@ -3,4 +3,4 @@ use Rattle.std.specs.Prelude.{replicate}
 use Rattle.nr_u.proofs.encoding.pad.Given as goal
 
 abbrev pub invariant-loop : goal.invariant-loop
-invariant-loop l = l.out ≡ l.fn.out ++ replicate l.counter 0
+invariant-loop l = l.out.items ≡ l.fn.out.items ++ replicate l.counter 0

@@ -1,6 +1,0 @@
-use Rattle.std.proofs.Common.{take}
-use Rattle.nr_u.proofs.Taking.{AfterRanges}
-use Rattle.nr_u.proofs.outbound.take_asked.Given as goal
-
-abbrev pub invariant-loop-range : goal.invariant-loop-range
-invariant-loop-range l = AfterRanges l.low l.confirmed.keys (take l.range-index l.lost) l.fn.unasked.entries l.unasked.entries l.again.items

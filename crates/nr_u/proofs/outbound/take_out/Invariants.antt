@@ -1,6 +1,0 @@
-use Rattle.std.proofs.Common.{◌≡◌, take}
-use Rattle.nr_u.specs.Waiting.{taken_out}
-use Rattle.nr_u.proofs.outbound.take_out.Given as goal
-
-abbrev pub invariant-loop-entry : goal.invariant-loop-entry
-invariant-loop-entry l = l.map.entries ≡ taken_out l.fn.map.entries (take l.entry-index l.entries)
