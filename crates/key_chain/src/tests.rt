@@ -126,25 +126,32 @@ fn keys_of_a_root(rt: HostRuntime) {
     );
 }
 
+/// A root is noted once, and each root counts for itself.
 #[test]
 fn a_book_of_two_roots(rt: HostRuntime) -> Result<(), Fail> {
-    let name = |root: u32, side: Side| KeyName { root, side };
     let mut book = KeyBook::new(rt.alloc(), &[0; 32], 0)?;
-    assert_eq!(rt; book.next_sn(), Ok(name(0, Side::Second(0))));
-    assert_eq!(rt; book.next_sn(), Ok(name(0, Side::Second(1))));
     assert_eq!(rt; book.refresh(&[0x11; 32]), Ok(1));
     assert_eq!(rt; book.refresh(&[0; 32]), Err(KeyErr::RootUsed));
     assert_eq!(rt; book.current(), 0);
     book.set_current(1);
-    assert_eq!(rt; book.next_sn(), Ok(name(1, Side::Second(0))));
-    assert_eq!(rt; book.octets(&name(1, Side::Master)), [0x11; 32]);
-    assert_eq!(rt;
-        book.octets(&name(1, Side::Second(0))),
-        k_sn(&[0x11; 32], 0)
-    );
+    let first = KeyName {
+        root: 1,
+        side: Side::Second(0),
+    };
+    assert_eq!(rt; book.octets(&first), k_sn(&[0x11; 32], 0));
+    assert_eq!(rt; book.next_sn(), Ok(first));
+    Ok(())
+}
 
+/// A key is claimed for an identity by one establishment.
+#[test]
+fn claims_of_an_identity(rt: HostRuntime) -> Result<(), Fail> {
+    let mut book = KeyBook::new(rt.alloc(), &[0; 32], 0)?;
     let id = DrbId::new(1).ok_or("an identity")?;
-    let key = name(0, Side::Master);
+    let key = KeyName {
+        root: 0,
+        side: Side::Master,
+    };
     assert_eq!(rt; book.claim(id, 1, &key), Ok(()));
     assert_eq!(rt; book.claim(id, 1, &key), Ok(()));
     assert_eq!(rt; book.claim(id, 2, &key), Err(KeyErr::IdSpent));
@@ -153,6 +160,7 @@ fn a_book_of_two_roots(rt: HostRuntime) -> Result<(), Fail> {
     Ok(())
 }
 
+/// SN Counters that were drawn before: all, and all but the last.
 #[test]
 fn counters_used_before(rt: HostRuntime) -> Result<(), Fail> {
     let mut spent = KeyBook::new(rt.alloc(), &[0; 32], 65_536)?;
