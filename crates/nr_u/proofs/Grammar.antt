@@ -21,7 +21,7 @@ none_some h = cc
 abbrev pub AreSmall : List Range → Type 0
 AreSmall rs = AllByRecursion (λ r. (r.from < 2 ^ 24) × (r.to < 2 ^ 24)) rs
 
-AreSmall-rising : (low : ℕ) (rs : List Range) → Rising low rs → AllByRecursion (λ r. r.to < 2 ^ 24) rs → AreSmall rs
+pub AreSmall-rising : (low : ℕ) (rs : List Range) → Rising low rs → AllByRecursion (λ r. r.to < 2 ^ 24) rs → AreSmall rs
 AreSmall-rising low [] up fits = tt
 AreSmall-rising low (r ∷ rs) up fits = ((omega (arith, up.1, fits.0), fits.0), AreSmall-rising (r.to + 1) rs up.2 fits.1)
 

@@ -98,19 +98,19 @@ history_sent sent o count repeat was = record {
   numbers = omega (arith, was.numbers, length-append sent ((record { count = count; repeat = repeat }) ∷ []));
   firsts = firsts_noted sent o.next count repeat o.waiting was.numbers was.firsts;
   settled = λ number c at.
-  elim (get_cases sent (record { count = count; repeat = repeat }) (first_send c) number at) [
-    | inl before ↦
-        let inside : number < o.next = omega (arith, was.numbers, slice_get_within sent number (first_send c) before) in
-        elim (was.settled number c before) [
-          | inl waits ↦ inl (waits_noted o.next count repeat o.waiting number c inside waits)
-          | inr confirmed ↦ inr confirmed
-        ]
-    | inr last ↦
-        let count_is : count ≡ Some c = ap (λ (s : Sent). s.count) last.1 in
-        let repeat_is : repeat ≡ false = ap (λ (s : Sent). s.repeat) last.1 in
-        let at_next : number ≡ o.next = last.0 ∙ was.numbers in
-        inl (rw at_next (waits_new o.next count repeat o.waiting c count_is repeat_is))
-  ];
+      elim (get_cases sent (record { count = count; repeat = repeat }) (first_send c) number at) [
+        | inl before ↦
+            let inside : number < o.next = omega (arith, was.numbers, slice_get_within sent number (first_send c) before) in
+            elim (was.settled number c before) [
+              | inl waits ↦ inl (waits_noted o.next count repeat o.waiting number c inside waits)
+              | inr confirmed ↦ inr confirmed
+            ]
+        | inr last ↦
+            let count_is : count ≡ Some c = ap (λ (s : Sent). s.count) last.1 in
+            let repeat_is : repeat ≡ false = ap (λ (s : Sent). s.repeat) last.1 in
+            let at_next : number ≡ o.next = last.0 ∙ was.numbers in
+            inl (rw at_next (waits_new o.next count repeat o.waiting c count_is repeat_is))
+      ];
 }
 
 -- ---- a frame comes
@@ -187,13 +187,13 @@ history_frame sent o low (Status highest lost) was =
       numbers = was.numbers;
       firsts = all_filter (λ (e : Counted). slice_get sent e.0 ≡ Some (first_send e.1)) (λ (e : Counted). slice_get sent e.0 ≡ Some (first_send e.1)) (λ e. not (p e)) o.waiting was.firsts (λ e is passes. is);
       settled = λ number c at.
-      elim (was.settled number c at) [
-        | inr confirmed ↦ inr (fold_keeps c o.confirmed (map (λ (e : Counted). e.1) (confirmed_by o low highest lost)) confirmed)
-        | inl waits ↦ elim (cases_Bool (p (number, c))) [
-          | inl now ↦ inr (fold_adds c o.confirmed (map (λ (e : Counted). e.1) (confirmed_by o low highest lost)) (waits_passes p number c o.waiting waits now))
-          | inr later ↦ inl (waits_stays p number c o.waiting waits later)
-        ]
-      ];
+          elim (was.settled number c at) [
+            | inr confirmed ↦ inr (fold_keeps c o.confirmed (map (λ (e : Counted). e.1) (confirmed_by o low highest lost)) confirmed)
+            | inl waits ↦ elim (cases_Bool (p (number, c))) [
+              | inl now ↦ inr (fold_adds c o.confirmed (map (λ (e : Counted). e.1) (confirmed_by o low highest lost)) (waits_passes p number c o.waiting waits now))
+              | inr later ↦ inl (waits_stays p number c o.waiting waits later)
+            ]
+          ];
     }
 
 -- each first send that the frame says was delivered is confirmed, by it or by a frame before it

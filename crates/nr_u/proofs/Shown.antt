@@ -82,7 +82,9 @@ shows_ranges low place (suc k) (a ∷ b ∷ c ∷ d ∷ e ∷ f ∷ rest) fits l
     record {
       rising = (ltb-false _ _ steps.0, ltb-false _ _ steps.1, later.rising);
       small = (number_small d e f fits.1.1.1.0 fits.1.1.1.1.0 fits.1.1.1.1.1.0, later.small);
-      shown = rw (len, number_octets a b c fits.0 fits.1.0 fits.1.1.0, number_octets d e f fits.1.1.1.0 fits.1.1.1.1.0 fits.1.1.1.1.1.0) (ap (λ (x : List ℕ). a ∷ b ∷ c ∷ d ∷ e ∷ f ∷ x) later.shown);
+      shown = ap (λ (n : ℕ). take n (a ∷ b ∷ c ∷ d ∷ e ∷ f ∷ rest)) len ∙ ap (λ (x : List ℕ). a ∷ b ∷ c ∷ d ∷ e ∷ f ∷ x) later.shown
+          ∙ sym (ap (λ (x : List ℕ). (x ++ number (number_of d e f)) ++ flat_map range (shown_ranges k rest)) (number_octets a b c fits.0 fits.1.0 fits.1.1.0)
+          ∙ ap (λ (x : List ℕ). ((a ∷ b ∷ c ∷ []) ++ x) ++ flat_map range (shown_ranges k rest)) (number_octets d e f fits.1.1.1.0 fits.1.1.1.1.0 fits.1.1.1.1.1.0));
     }
 
 else_passes : (a b : Option NruErr) → (a else b) ≡ None → (a ≡ None) × (b ≡ None)
@@ -119,7 +121,7 @@ reads_highest true [] fits long pass = absurd (omega arith)
 reads_highest true (a ∷ []) fits long pass = absurd (omega arith)
 reads_highest true (a ∷ b ∷ []) fits long pass = absurd (omega arith)
 reads_highest true (a ∷ b ∷ c ∷ rest) fits long pass =
-    (leb-false _ _ (if_passes (leb (2 ^ 18) (number_of a b c)) _ None pass).0, (λ none. absurd cc), λ three. (tt, rw (number_octets a b c fits.0 fits.1.0 fits.1.1.0) refl))
+    (leb-false _ _ (if_passes (leb (2 ^ 18) (number_of a b c)) _ None pass).0, (λ none. absurd cc), λ three. (refl, sym (number_octets a b c fits.0 fits.1.0 fits.1.1.0)))
 
 status_shown : (first count : ℕ) (rest : List ℕ) → first / 2 ^ 4 ≡ 1 → count < 2 ^ 8 → AreOctets rest → status_fault first (count ∷ rest) ≡ None → IsFrame (first ∷ count ∷ rest) (shown_status first (count ∷ rest))
 status_shown first count rest kind small fits pass =
@@ -132,7 +134,7 @@ status_shown first count rest kind small fits pass =
     let after_long : 6 * count ≤ length (drop start rest) = omega (arith, long, length-drop start rest) in
     let ranges = shows_ranges 0 (2 + start) count (drop start rest) (octets_drop start rest fits) after_long behind.0 in
     status_frame first count start rest (take start rest) (drop start rest) (take (6 * count) (drop start rest)) (drop (6 * count) (drop start rest)) (shown_highest (is_set first 0) rest) (shown_ranges count (drop start rest))
-    kind small refl (length-take start rest (omega (arith, long))) refl refl (length-take (6 * count) (drop start rest) after_long) refl refl
+    kind small refl (omega (arith, length-take start rest, long)) refl refl (omega (arith, length-take (6 * count) (drop start rest), after_long)) refl refl
     highest (ranges.rising, ranges.small) ranges.shown (padding_short _ _ behind.1)
 
 user_shown : (first : ℕ) (rest : List ℕ) → first / 2 ^ 4 ≡ 0 → AreOctets rest → user_fault rest ≡ None → IsFrame (first ∷ rest) (User (shown_number rest) (is_set first 0) (is_set first 1))
@@ -142,7 +144,7 @@ user_shown first (a ∷ b ∷ []) kind fits pass = absurd cc
 user_shown first (a ∷ b ∷ c ∷ padding) kind fits pass = record {
   first = first;
   padding = padding;
-  parts = rw (number_octets a b c fits.0 fits.1.0 fits.1.1.0) refl;
+  parts = ap (λ (x : List ℕ). first ∷ (x ++ padding)) (sym (number_octets a b c fits.0 fits.1.0 fits.1.1.0));
   first_is = (kind, refl, refl);
   fits = number_small a b c fits.0 fits.1.0 fits.1.1.0;
   short = padding_short 4 padding pass;
@@ -182,3 +184,16 @@ pub decodes_frame : (octets : List ℕ) (f : Frame) → AreOctets octets → dec
 decodes_frame octets f fits is =
     let parts = judged_is (shown_frame octets) f (fault_of octets) is in
     rw (← parts.1) (shown_frame_is octets fits parts.0)
+
+-- ---- it computes
+
+abbrev lost_1 : Range
+lost_1 = record { from = 1; to = 1 }
+
+-- the status that names 2 and lists 1 to 1
+status_computes : decoded (17 ∷ 1 ∷ 0 ∷ 0 ∷ 2 ∷ 0 ∷ 0 ∷ 1 ∷ 0 ∷ 0 ∷ 1 ∷ 0 ∷ 0 ∷ 0 ∷ []) ≡ Ok (Status (Some 2) (lost_1 ∷ []))
+status_computes = refl
+
+-- a range that ends before it begins
+fault_computes : decoded (16 ∷ 1 ∷ 0 ∷ 0 ∷ 5 ∷ 0 ∷ 0 ∷ 4 ∷ []) ≡ Err (Ranges 2)
+fault_computes = refl

@@ -1,5 +1,5 @@
 -- What is written is the frame, and fits a container.
-use Rattle.std.proofs.Common.{◌≡◌, ℕ, ◌+◌, ◌*◌, ◌-◌, ◌∷◌, ◌%◌, ◌≤◌, true, false, List, length, Option, Some, None, is_some, refl, arith}
+use Rattle.std.proofs.Common.{◌≡◌, ℕ, ◌+◌, ◌*◌, ◌-◌, ◌∷◌, ◌%◌, ◌≤◌, true, false, List, length, Option, Some, None, is_some, refl, sym, ap, ◌∙◌, arith}
 use Rattle.std.specs.Prelude.{replicate}
 use Rattle.std.proofs.lemmas.List.{length-append, length-replicate}
 use Rattle.nr_u.specs.declared.frame.Range.{Range}
@@ -52,3 +52,11 @@ pub written_length : (f : Frame) (bare : ℕ) → bare ≡ length (first_octet f
 written_length f bare is =
     let pad = (6 - length (first_octet f ∷ fields f) % 4) % 4 in
     rw is (omega (arith, length-append (first_octet f ∷ fields f) (replicate pad 0), length-replicate {A = ℕ} pad 0))
+
+pub status_bare : (f : Frame) (highest : Option ℕ) (lost : List Range) (set count : ℕ) → f ≡ Status highest lost → set ≡ flag (is_some highest) → count ≡ length lost → 2 + 3 * set + 6 * count ≡ length (first_octet f ∷ fields f)
+status_bare f highest lost set count f_is set_is count_is =
+    let bare : 2 + 3 * set + 6 * count ≡ length (first_octet (Status highest lost) ∷ fields (Status highest lost)) = rw (set_is, count_is) (sym (status_length highest lost)) in
+    bare ∙ sym (ap (λ (x : Frame). length (first_octet x ∷ fields x)) f_is)
+
+pub bare_small : (f : Frame) → IsWritable f → length (first_octet f ∷ fields f) ≤ 1013
+bare_small f can = omega (arith, fields_len f can)

@@ -182,18 +182,34 @@ fn more_gaps_than_a_status_lists(rt: HostRuntime) {
     let mut host = Inbound::new(rt.alloc(), SnLen::S12);
     for k in 0..169 {
         let number = 2 * k + 1;
-        assert_eq!(rt; host.came(number, Some(number), false, Tag::count(number)), Ok(true));
+        assert_eq!(rt;
+            host.came(number, Some(number), false, Tag::count(number)),
+            Ok(true)
+        );
         host.acked(number);
     }
     // the number that comes next; the tag; octets with the highest and the first listed, and with the last
     // listed: 168 of the 169 gaps while there are so many, and then all
     let rows: [(Option<u32>, u32, [u8; 8], [u8; 7]); 2] = [
-        (None, 335, [0x11, 168, 0, 1, 79, 0, 0, 0], [0, 1, 78, 0, 1, 78, 0]),
-        (Some(0), 337, [0x11, 168, 0, 1, 81, 0, 0, 2], [0, 1, 80, 0, 1, 80, 0]),
+        (
+            None,
+            335,
+            [0x11, 168, 0, 1, 79, 0, 0, 0],
+            [0, 1, 78, 0, 1, 78, 0],
+        ),
+        (
+            Some(0),
+            337,
+            [0x11, 168, 0, 1, 81, 0, 0, 2],
+            [0, 1, 80, 0, 1, 80, 0],
+        ),
     ];
     for (number, named, front, back) in rows {
         if let Some(number) = number {
-            assert_eq!(rt; host.came(number, Some(number), false, Tag::count(number)), Ok(true));
+            assert_eq!(rt;
+                host.came(number, Some(number), false, Tag::count(number)),
+                Ok(true)
+            );
             host.acked(number);
         }
         let (f, tag) = host.status().expect(&rt, "memory");

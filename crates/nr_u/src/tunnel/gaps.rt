@@ -30,11 +30,7 @@ pub(crate) fn gap_at(gaps: &BTreeMap<u32, u32>, number: u32) -> Option<Range>
 
 /// Adds the numbers from `from` on and below the number as a gap, if there are some. After `Memory` the
 /// gaps are as before.
-pub(crate) fn add_below(
-    gaps: &mut BTreeMap<u32, u32>,
-    from: u32,
-    number: u32,
-) -> Result<(), Memory>
+pub(crate) fn add_below(gaps: &mut BTreeMap<u32, u32>, from: u32, number: u32) -> Result<(), Memory>
     ensures ok { OnOk result (gaps.new.entries ≡ with_below from number gaps.old.entries) }
     ensures err { OnErr result (gaps.new.entries ≡ gaps.old.entries) }
 {
@@ -74,17 +70,17 @@ pub(crate) fn narrow(gaps: &mut BTreeMap<u32, u32>, gap: Option<Range>, number: 
 pub(crate) fn listed(alloc: Global, gaps: &BTreeMap<u32, u32>) -> Result<Seq<Range>, Memory>
     ensures { IfOk result (λ lost. lost ≡ take 168 (map gap_range gaps.now.entries)) }
 {
-    let mut lost = Vec::new(alloc);
+    let mut lost = Seq::new(alloc);
     for (to, from) in gaps {
         if lost.len() == LISTED {
-            return Ok(Seq::from_vec(lost));
+            return Ok(lost);
         }
         lost.push(Range {
             from: *from,
             to: *to,
         })?;
     }
-    Ok(Seq::from_vec(lost))
+    Ok(lost)
 }
 
 /// Where the first gap begins that a status does not list, and past all numbers if there is none.

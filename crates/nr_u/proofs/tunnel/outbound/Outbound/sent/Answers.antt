@@ -4,8 +4,8 @@ use Rattle.nr_u.proofs.Sending.{state_next, state_first, state_sent}
 use Rattle.nr_u.proofs.History.{history_sent}
 use Rattle.nr_u.proofs.tunnel.outbound.Outbound.sent.Goals as goal
 
-pub invariant_of-self-in_err-note_first : goal.invariant_of-self-in_err-note_first
-invariant_of-self-in_err-note_first c =
+pub invariant_of-self : goal.invariant_of-self
+invariant_of-self c =
     rw c.in_err-note_first.ensures.err (state_next _ _ _ _ _ _ _ c.self.invariant)
 
 pub invariant_of-self-in_err-note_both : goal.invariant_of-self-in_err-note_both
