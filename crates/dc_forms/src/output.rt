@@ -32,11 +32,7 @@ fn keys(alloc: Global, root: &[u8; 32], counter: u16) -> Result<Octets, Memory>
     let mut out = Octets::new(alloc);
     write_named(&mut out, b"master-upenc ", &k_upenc(root, Alg::Nea2))?;
     write_named(&mut out, b"ksn ", &second)?;
-    write_named(
-        &mut out,
-        b"second-upenc ",
-        &k_upenc(&second, Alg::Nea2),
-    )?;
+    write_named(&mut out, b"second-upenc ", &k_upenc(&second, Alg::Nea2))?;
     Ok(out)
 }
 

@@ -3,7 +3,7 @@ use Rattle.std.proofs.Common.{ℕ, zero, suc, ◌≡◌, Bool, true, false, Opti
 use Rattle.std.specs.Prelude.{slice_index_or, ◌&&◌}
 use Rattle.dc_base.specs.declared.flights.Flight.{Flight}
 use Rattle.dc_base.specs.declared.flights.Flight.TheVariants.{Air, Ack, Tun, Sdu, End, Told, Ctl}
-use Rattle.transcript.specs.Text.{is_data}
+use Rattle.pdcp_pdu.specs.DataPdu.{is_data}
 use Rattle.dc_world.specs.Entities.{Entities, no_bearers}
 use Rattle.dc_world.specs.Plane.{is_behind, is_aged}
 

@@ -20,7 +20,7 @@ use Rattle.pdcp_tx.specs.Sender.{low}
 use Rattle.pdcp_rx.specs.Entries.{AscendFrom, counts_of, is_stored}
 use Rattle.pdcp_rx.specs.Receiver.{Received}
 use Rattle.pdcp_rx.specs.declared.entity.RxParts.{RxParts}
-use Rattle.transcript.specs.Text.{is_data}
+use Rattle.pdcp_pdu.specs.DataPdu.{is_data}
 use Rattle.transcript.specs.Transcript.{Entry, sends}
 use Rattle.transcript.specs.Content.{mt_ctl, tm_ctl, put_on}
 use Rattle.transcript.specs.Bearers.{Established, established, submitted, confirms, confirmed, tag_of, at_submitter, submitter}

@@ -19,7 +19,7 @@ use Rattle.pdcp_pdu.specs.DataPdu.{IsPayload}
 use Rattle.pdcp_pdu.specs.Bitmap.{names}
 use Rattle.pdcp_pdu.specs.Pdu.{report, decoded}
 use Rattle.pdcp_rx.specs.declared.entity.RxParts.{RxParts}
-use Rattle.transcript.specs.Text.{is_data}
+use Rattle.pdcp_pdu.specs.DataPdu.{is_data}
 use Rattle.pdcp_tx.specs.Sender.{low}
 use Rattle.pdcp_rx.specs.Receiver.{Received}
 use Rattle.transcript.specs.Transcript.{Entry, sends, Each, SomeEntry}

@@ -22,7 +22,7 @@ use Rattle.pdcp_pdu.specs.Pdu.{sdu, decoded, read_data}
 use Rattle.pdcp_pdu.proofs.Reading.{data_again}
 use Rattle.pdcp_rx.specs.Receiver.{put, handed_of}
 use Rattle.dc_base.specs.Links.{is_to}
-use Rattle.transcript.specs.Text.{is_data}
+use Rattle.pdcp_pdu.specs.DataPdu.{is_data}
 use Rattle.transcript.specs.Transcript.{Entry}
 use Rattle.transcript.specs.Bearers.{Established, master_key, confirmed_by, read_of, is_generation_of, submitter}
 use Rattle.dc_world.specs.Entities.{Entities}

@@ -27,7 +27,7 @@ use Rattle.pdcp_tx.specs.Sender.{Sender, low}
 use Rattle.pdcp_tx.specs.Sending.{take_sdu as taken, confirm_count as confirmed, take_report as reported}
 use Rattle.pdcp_tx.specs.declared.tx.TxErr.{TxErr}
 use Rattle.pdcp_tx.specs.declared.tx.TxErr.TheVariants as refused
-use Rattle.transcript.specs.Text.{is_data}
+use Rattle.pdcp_pdu.specs.DataPdu.{is_data}
 use Rattle.transcript.specs.Content.{air_link}
 use Rattle.transcript.specs.Bearers.{Established, master_key}
 use Rattle.transcript.specs.Claims.{receiver}

@@ -2,7 +2,6 @@
 
 ghost use Rattle.std.specs.Prelude.{◌≡◌, ◌<◌, [], map, IfOk};
 ghost use Rattle.pdcp_rx.specs.Receiver.{handed_of};
-ghost use Rattle.transcript.specs.Text.{is_data};
 ghost use Rattle.transcript.specs.Claims.{receiver};
 ghost use Rattle.dc_world.specs.Plane.{leg, other, up_line, freed_lines, identity_of};
 
@@ -100,16 +99,6 @@ pub fn freed_lines(
         }))?;
     }
     Ok(lines)
-}
-
-/// Whether a PDU is a data PDU: bit 7 of its first octet is 1.
-pub fn is_data(pdu: &[u8]) -> bool
-    ensures { result ≡ is_data pdu.now }
-{
-    match pdu {
-        [first, ..] => 128 <= *first,
-        [] => false,
-    }
 }
 
 /// The identity that a flight on a leg names, 0 for any other flight.

@@ -11,8 +11,9 @@ ghost use Rattle.dc_world.specs.Run.{reported_by};
 
 use crate::ciphering::Ciphering;
 use crate::entities::PdcpEntities;
-use crate::plane::{Outcome, identity_of, is_data, refused};
+use crate::plane::{Outcome, identity_of, refused};
 use dc_base::{Answer, Dir, DrbId, Flight, Gen, Item, Line, Memory, Note, Octets, Refusal, Seq};
+use pdcp_pdu::is_data;
 use std::alloc::Global;
 use std::marker::Model;
 

@@ -2,13 +2,14 @@
 
 ghost use Rattle.std.specs.Prelude.{◌≡◌, ◌++◌, ◌∷◌, [], OnOk, codes, map};
 ghost use Rattle.std.specs.Fmt.{decimal};
-ghost use Rattle.transcript.specs.Text.{is_data, flight_text, rec_text, plan_text, pair_text};
+ghost use Rattle.transcript.specs.Text.{flight_text, rec_text, plan_text, pair_text};
 ghost use Rattle.transcript.specs.Words.{spaced, octets_or_dash};
 ghost use Rattle.dc_base.specs.declared.flights.Flight.TheVariants.{Air};
 
 use crate::fields::{Field, write_pair, write_plan, write_spaced};
 use dc_base::{DrbId, Flight, Gen, Memory, Octets, Plan, Rec, Seq, StatusTransfer, Tag};
 use dc_text::write_text;
+use pdcp_pdu::is_data;
 
 /// Writes a flight.
 pub fn write_flight(out: &mut Octets, flight: &Flight) -> Result<(), Memory>
@@ -91,16 +92,6 @@ fn write_counted(out: &mut Octets, word: &str, id: DrbId, g: Gen, count: u32) ->
             Field::Number(count),
         ],
     )
-}
-
-/// Whether a PDCP PDU is a data PDU (TS 38.323, 6.3.7).
-fn is_data(pdu: &[u8]) -> bool
-    ensures { result ≡ is_data pdu.now }
-{
-    match pdu.first() {
-        Some(octet) => *octet >= 128,
-        None => false,
-    }
 }
 
 /// Writes a record.

@@ -26,7 +26,7 @@ use Rattle.key_chain.specs.KeyNames.{upenc}
 use Rattle.pdcp_pdu.specs.DataPdu.{data_pdu}
 use Rattle.dc_base.specs.Nodes.{is_mm}
 use Rattle.dc_base.specs.Links.{reverse, is_ordered, is_tunnel}
-use Rattle.transcript.specs.Text.{is_data}
+use Rattle.pdcp_pdu.specs.DataPdu.{is_data}
 use Rattle.transcript.specs.Transcript.{Entry, sends, Each, SomeEntry}
 use Rattle.transcript.specs.Content.{mt_ctl, tm_ctl, air_link, direction, content, given}
 use Rattle.transcript.specs.Bearers.{Established, established, latest, is_generation_of, plans, plan_drawn, key_in, roots, submitted, ups, handed, numbered, frees, told, confirmed, is_confirmed, open_command, at_master, at_node, at_submitter, submitter}

@@ -20,6 +20,7 @@ use Rattle.dc_base.specs.declared.records.Plan.{Plan}
 use Rattle.dc_base.specs.declared.records.Rec.{Rec}
 use Rattle.dc_base.specs.declared.records.Rec.TheVariants as rec
 use Rattle.transcript.specs.Words.{spaced, or_dash, octets_or_dash, dir_word, node_word, alg_word, sn_word, link_word, shape_word, key_word, want_word, state_word, refusal_word, cause_word}
+use Rattle.pdcp_pdu.specs.DataPdu.{is_data}
 
 -- the first line of a script and of a transcript
 abbrev pub header_text : Header → List ℕ
@@ -89,11 +90,6 @@ rec_text (rec.Chgcnf plan) = spaced (codes "chgcnf" ∷ plan_text plan ∷ [])
 rec_text (rec.Chgref word) = spaced (codes "chgref" ∷ cause_word word ∷ [])
 rec_text rec.Relrqd = codes "relrqd"
 rec_text (rec.Relcnf plan) = spaced (codes "relcnf" ∷ plan_text plan ∷ [])
-
--- whether a PDCP PDU is a data PDU: bit 7 of its first octet is 1 (TS 38.323, 6.3.7)
-abbrev pub is_data : List ℕ → Bool
-is_data [] = false
-is_data (o ∷ os) = nat_le 128 o
 
 -- what stands on a link
 abbrev pub flight_text : Flight → List ℕ
