@@ -1,1 +1,5 @@
 -- tables
+mod Table0
+mod Table1
+mod Table2
+mod Table3

@@ -2,6 +2,8 @@
 use Rattle.std.specs.List.{find, list_any}
 use Rattle.std.specs.Prelude.{Bool, List, None, Option, Some, [], if◌then◌else◌, is_none, is_some, nat_le, nat_lt, not, ℕ, ◌&&◌, ◌+◌, ◌-◌, ◌==◌, ◌^◌, ◌||◌, ◌∷◌}
 use Rattle.dc_base.specs.Count.{window}
+use Rattle.dc_base.specs.Links.{is_ordered}
+use Rattle.dc_base.specs.Nodes.{is_mm}
 use Rattle.dc_base.specs.declared.answers.Answer.{Answer}
 use Rattle.dc_base.specs.declared.answers.Answer.TheVariants as answer
 use Rattle.dc_base.specs.declared.answers.Refusal.{Refusal}
@@ -17,9 +19,8 @@ use Rattle.dc_base.specs.declared.nodes.Node.{Node}
 use Rattle.dc_base.specs.declared.nodes.Node.TheVariants.{A, B, M, T}
 use Rattle.dc_base.specs.declared.nodes.Shape.{Shape}
 use Rattle.transcript.specs.Transcript.{Entry}
-use Rattle.claims.specs.Links.{find_at, is_class, is_ordered}
+use Rattle.claims.specs.Links.{find_at, is_class}
 use Rattle.claims.specs.Sameness.{is_same_answer, is_same_octets, is_some_and, kept_if, shape_number}
-use Rattle.claims.specs.Shapes.{is_mm}
 use Rattle.claims.specs.Views.{data_of, delivery_of}
 use Rattle.claims.specs.Table.{Row, drawn, row}
 use Rattle.claims.specs.Past.{Bearer, Past}

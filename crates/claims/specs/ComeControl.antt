@@ -1,6 +1,7 @@
 -- What must come of commands and records. Everywhere p is the past before the event, and q after it.
 use Rattle.std.specs.List.{list_all, list_any}
 use Rattle.std.specs.Prelude.{Bool, List, None, Option, Some, false, if◌then◌else◌, is_none, is_some, nat_le, not, true, ℕ, ◌&&◌, ◌==◌, ◌||◌}
+use Rattle.dc_base.specs.Nodes.{is_same_node}
 use Rattle.dc_base.specs.declared.answers.Answer.{Answer}
 use Rattle.dc_base.specs.declared.answers.Answer.TheVariants as answer
 use Rattle.dc_base.specs.declared.events.Event.{Event}
@@ -20,7 +21,7 @@ use Rattle.dc_base.specs.declared.records.Plan.{Plan}
 use Rattle.dc_base.specs.declared.records.Rec.{Rec}
 use Rattle.dc_base.specs.declared.records.Rec.TheVariants as rec
 use Rattle.transcript.specs.Transcript.{Entry}
-use Rattle.claims.specs.Sameness.{implies, is_node, is_none_or, is_number, is_some_and}
+use Rattle.claims.specs.Sameness.{implies, is_none_or, is_number, is_some_and}
 use Rattle.claims.specs.Views.{record_in}
 use Rattle.claims.specs.Table.{Command, Kind, change, recovery}
 use Rattle.claims.specs.Past.{Past}
@@ -125,7 +126,7 @@ is_scgf _ = false
 abbrev pub failure_is_passed : Past → List Line → ℕ × ℕ → Bool
 failure_is_passed q xs (id, g) =
     implies (is_carried_in g (bearer_of q id g))
-        (is_none_or (λ s. is_node (anchor_in s) M || sends_record_to (anchor_in s) (is_scgn_of id g) xs) (setting q id g))
+        (is_none_or (λ s. is_same_node (anchor_in s) M || sends_record_to (anchor_in s) (is_scgn_of id g) xs) (setting q id g))
 
 -- what a record brings about at once
 abbrev pub record_brings : Past → List Line → Rec → Bool
@@ -169,7 +170,7 @@ is_configured q g (Unset id) = list_all (λ b. not (b.id == id) || is_none b.ter
 -- an anchor that is fresh or stays is active once its node has carried the plan out; one that moves away is frozen
 abbrev pub item_is_carried : Past → List Line → Node → ℕ → Item → Bool
 item_is_carried q xs x g (Set id n first shape threshold policy key old) =
-    is_none_or (λ s. implies (is_node x (anchor_in s) && not (is_moved s)) (is_active_since q id g) && implies (moves_from x s) (list_any (gives_now x id g) xs))
+    is_none_or (λ s. implies (is_same_node x (anchor_in s) && not (is_moved s)) (is_active_since q id g) && implies (moves_from x s) (list_any (gives_now x id g) xs))
         (setting q id g)
 item_is_carried q xs x g (Unset id) = true
 

@@ -3,6 +3,8 @@ use Rattle.std.specs.List.{filter_map, list_all, list_any}
 use Rattle.std.specs.Option.{option_and_then, option_map}
 use Rattle.std.specs.Prelude.{Bool, List, None, Option, Some, false, if◌then◌else◌, is_some, map, nat_le, not, true, ℕ, ◌&&◌, ◌==◌, ◌||◌}
 use Rattle.dc_base.specs.Count.{sn}
+use Rattle.dc_base.specs.Links.{is_same_link, link}
+use Rattle.dc_base.specs.Nodes.{is_same_dir, is_same_node}
 use Rattle.dc_base.specs.declared.events.Line.{Line}
 use Rattle.dc_base.specs.declared.events.Line.TheVariants as line
 use Rattle.dc_base.specs.declared.events.Note.TheVariants as note
@@ -22,8 +24,7 @@ use Rattle.dc_base.specs.declared.records.Rec.{Rec}
 use Rattle.dc_base.specs.declared.records.Rec.TheVariants as rec
 use Rattle.dc_base.specs.declared.records.StatusTransfer.{StatusTransfer}
 use Rattle.transcript.specs.Transcript.{Entry}
-use Rattle.claims.specs.Links.{is_same_link, link}
-use Rattle.claims.specs.Sameness.{implies, is_node, is_none_or, is_same_dir, is_same_octets, is_some_and, kept_if}
+use Rattle.claims.specs.Sameness.{implies, is_none_or, is_same_octets, is_some_and, kept_if}
 use Rattle.claims.specs.Packets.{Packet, forwarded, total}
 use Rattle.claims.specs.Views.{forwarding_of, packet_in}
 use Rattle.claims.specs.Past.{Bearer, Past}
@@ -54,7 +55,7 @@ sends_packet f xs = list_any (λ s. is_some_and (λ v. f (s.0, v)) (packet_in s.
 
 -- the downlink tunnel of a frozen anchor is closed at once at the master, at a secondary when the feed has ended
 abbrev pub is_feed_over : Past → Node → ℕ → ℕ → Bool
-is_feed_over q x id g = is_node x M || has_arrived q x (λ f. is_end_of id g (link M x Feed, f))
+is_feed_over q x id g = is_same_node x M || has_arrived q x (λ f. is_end_of id g (link M x Feed, f))
 
 -- the transfer of an identity and generation
 abbrev pub is_transfer_record : ℕ → ℕ → Rec → Bool
@@ -77,7 +78,7 @@ freeze_comes q xs _ = true
 
 -- the node's anchor was frozen for this change, and its downlink tunnel is open
 abbrev pub is_forwarding : Past → Node → Bearer → Option ℕ
-is_forwarding q x b = option_map (λ o. o.1) (kept_if (λ o. is_node x o.0 && not (is_closed q b.id o.1 Dl)) b.gave)
+is_forwarding q x b = option_map (λ o. o.1) (kept_if (λ o. is_same_node x o.0 && not (is_closed q b.id o.1 Dl)) b.gave)
 
 -- the packet is a fresh SDU of the tunnel
 abbrev pub is_fresh_forward : ℕ → ℕ → LinkId × Packet → Bool
@@ -93,7 +94,7 @@ fed_is_forwarded q xs _ = true
 -- the end of the feed closes the tunnel of an anchor that is frozen
 abbrev pub end_closes : Past → List Line → LinkId × Flight → Bool
 end_closes q xs (l, flight.End id g) =
-    is_none_or (λ b. implies (is_some_and (λ o. is_node l.to o.0 && (o.1 == g)) b.gave) (is_closed q id g Dl)) (bearer_of q id g)
+    is_none_or (λ b. implies (is_some_and (λ o. is_same_node l.to o.0 && (o.1 == g)) b.gave) (is_closed q id g Dl)) (bearer_of q id g)
 end_closes q xs _ = true
 
 -- a total is followed by its End Marker, on its link
@@ -110,7 +111,7 @@ totals_close q xs = is_some q.copied || list_all (λ s. is_none_or (total_is_clo
 -- a plan that is carried out ends the feed of each secondary anchor that it moves away
 abbrev pub feed_ends : Past → List Line → ℕ → Item → Bool
 feed_ends q xs g (Set id n first shape threshold policy key (Some old)) =
-    is_node old M || not (is_some_and is_moved (setting q id g)) || list_any (is_end_of id g) (sends_in xs)
+    is_same_node old M || not (is_some_and is_moved (setting q id g)) || list_any (is_end_of id g) (sends_in xs)
 feed_ends q xs g _ = true
 
 -- the plan that a `reconf` carries out
@@ -128,11 +129,11 @@ feeds_end q xs = list_all (λ (r : Plan). list_all (feed_ends q xs r.g) r.items)
 
 -- the master passes a transfer on, where the new anchor is the other secondary
 abbrev pub is_passed_to : Past → List Line → StatusTransfer → Setting → Bool
-is_passed_to q xs t s = is_node (anchor_in s) M || sends_record_to (anchor_in s) (is_transfer_record t.id t.g) xs
+is_passed_to q xs t s = is_same_node (anchor_in s) M || sends_record_to (anchor_in s) (is_transfer_record t.id t.g) xs
 
 -- a transfer that the master takes
 abbrev pub transfer_is_passed : Past → List Line → LinkId × Flight → Bool
-transfer_is_passed q xs (l, flight.Ctl (rec.Snst t)) = not (is_node l.to M) || is_none_or (is_passed_to q xs t) (setting q t.id t.g)
+transfer_is_passed q xs (l, flight.Ctl (rec.Snst t)) = not (is_same_node l.to M) || is_none_or (is_passed_to q xs t) (setting q t.id t.g)
 transfer_is_passed q xs _ = true
 
 -- ---- the new anchor
@@ -148,7 +149,7 @@ moved_in f = forwarding_of f
 
 -- the setting moves the anchor to the node, which has all of it
 abbrev pub is_ready : Past → Node → ℕ → ℕ → Setting → Bool
-is_ready q x id g s = is_node x (anchor_in s) && is_moved s && is_all_in q x id g
+is_ready q x id g s = is_same_node x (anchor_in s) && is_moved s && is_all_in q x id g
 
 -- the last part of a move brings the adoption
 abbrev pub adoption_comes : Past → LinkId → ℕ × ℕ → Bool
@@ -157,7 +158,7 @@ adoption_comes q l (id, g) = not (is_some_and (is_ready q l.to id g) (setting q 
 -- a secondary that adopts says so
 abbrev pub moved_comes : Past → List Line → Line → Bool
 moved_comes q xs (line.Note (note.Own x id g)) =
-    is_node x M || not (is_some_and is_moved (setting q id g)) || sends_record (is_moved_of id g) xs
+    is_same_node x M || not (is_some_and is_moved (setting q id g)) || sends_record (is_moved_of id g) xs
 moved_comes q xs _ = true
 
 -- all of a move comes

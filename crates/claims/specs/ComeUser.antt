@@ -1,6 +1,8 @@
 -- What must come in the user plane. Everywhere p is the past before the event, and q after it.
 use Rattle.std.specs.List.{list_all, list_any}
 use Rattle.std.specs.Prelude.{Bool, List, Some, [], false, filter, is_some, length, nat_le, not, true, ℕ, ◌&&◌, ◌+◌, ◌-◌, ◌==◌, ◌||◌, ◌∷◌}
+use Rattle.dc_base.specs.Links.{is_same_link, reverse}
+use Rattle.dc_base.specs.Nodes.{is_same_node}
 use Rattle.dc_base.specs.declared.answers.Answer.{Answer}
 use Rattle.dc_base.specs.declared.answers.Answer.TheVariants as answer
 use Rattle.dc_base.specs.declared.events.Event.{Event}
@@ -18,8 +20,7 @@ use Rattle.key_chain.specs.KeyNames.{octets}
 use Rattle.pdcp_pdu.specs.Pdu.{decoded}
 use Rattle.transcript.specs.Text.{is_data}
 use Rattle.transcript.specs.Transcript.{Entry}
-use Rattle.claims.specs.Links.{is_same_link, reverse}
-use Rattle.claims.specs.Sameness.{implies, is_node, is_none_or, is_number, is_some_and}
+use Rattle.claims.specs.Sameness.{implies, is_none_or, is_number, is_some_and}
 use Rattle.claims.specs.Shapes.{has_both}
 use Rattle.claims.specs.Confirming.{is_confirmed}
 use Rattle.claims.specs.Views.{Delivery, Pdu, delivery_of, report_in}
@@ -39,7 +40,7 @@ sent_pdus q = said_pdus q
 
 -- one of them is of this node, identity and generation, and has this COUNT
 abbrev pub is_count_of : Node → ℕ → ℕ → ℕ → LinkId × Pdu → Bool
-is_count_of x id g c (k, v) = is_node x k.from && (v.id == id) && (v.g == g) && is_number c v.tag
+is_count_of x id g c (k, v) = is_same_node x k.from && (v.id == id) && (v.g == g) && is_number c v.tag
 
 -- the node sends this COUNT in the event
 abbrev pub sends_count : Past → Node → ℕ → ℕ → ℕ → Bool
@@ -67,7 +68,7 @@ last_is_sent q x b next = is_none_or (sends_all q x b ((next - 1) ∷ [])) (curr
 
 -- the path of the bearer leads to a secondary
 abbrev pub is_path_away : Past → Bearer → Bool
-is_path_away q b = is_some_and (λ s. not (is_node (anchor_in s) M)) (setting q b.id b.carried)
+is_path_away q b = is_some_and (λ s. not (is_same_node (anchor_in s) M)) (setting q b.id b.carried)
 
 -- a submission is sent, or goes on the feed
 abbrev pub submission_comes : Past → List Line → Dir → Bearer → Bool

@@ -3,6 +3,7 @@
 use Rattle.std.specs.List.{list_any}
 use Rattle.std.specs.Option.{option_map}
 use Rattle.std.specs.Prelude.{Bool, List, None, Option, Some, [], false, filter, if◌then◌else◌, is_some, length, map, not, true, ℕ, ◌&&◌, ◌==◌, ◌∷◌}
+use Rattle.dc_base.specs.Nodes.{is_mm}
 use Rattle.dc_base.specs.declared.events.Event.{Event}
 use Rattle.dc_base.specs.declared.events.Event.TheVariants as event
 use Rattle.dc_base.specs.declared.nodes.KeyName.{KeyName}
@@ -15,7 +16,7 @@ use Rattle.dc_base.specs.declared.records.Item.{Item}
 use Rattle.dc_base.specs.declared.records.Item.TheVariants.{Set, Unset}
 use Rattle.key_chain.specs.KeyNames.{octets}
 use Rattle.claims.specs.Sameness.{is_none_or, is_number, is_same_key, is_some_and}
-use Rattle.claims.specs.Shapes.{anchor_at, is_mm, mm, other_second}
+use Rattle.claims.specs.Shapes.{anchor_at, mm, other_second}
 use Rattle.claims.specs.Table.{Row, Table, key_for, next_key, row, second_key}
 use Rattle.claims.specs.Reading.{named}
 

@@ -2,6 +2,7 @@
 use Rattle.std.specs.List.{list_all}
 use Rattle.std.specs.Prelude.{Bool, List, Option, is_none, nat_le, nat_lt, not, true, ℕ, ◌&&◌, ◌+◌, ◌==◌, ◌||◌}
 use Rattle.dc_base.specs.Count.{window}
+use Rattle.dc_base.specs.Nodes.{is_same_node}
 use Rattle.dc_base.specs.declared.events.Line.{Line}
 use Rattle.dc_base.specs.declared.events.Line.TheVariants as line
 use Rattle.dc_base.specs.declared.events.Note.TheVariants as note
@@ -13,7 +14,7 @@ use Rattle.dc_base.specs.declared.nodes.Node.{Node}
 use Rattle.dc_base.specs.declared.nodes.Node.TheVariants.{T}
 use Rattle.dc_base.specs.declared.numbers.SnLen.{SnLen}
 use Rattle.transcript.specs.Transcript.{Entry}
-use Rattle.claims.specs.Sameness.{implies, is_among, is_node, is_none_or, is_number, is_payload, is_some_and}
+use Rattle.claims.specs.Sameness.{implies, is_among, is_none_or, is_number, is_payload, is_some_and}
 use Rattle.claims.specs.Views.{data_of, delivery_of}
 use Rattle.claims.specs.Past.{Bearer, Past}
 use Rattle.claims.specs.Reading.{bearer_of, deliv, holds, lane, latest, low, submission}
@@ -25,8 +26,8 @@ has_taken d c b = is_some_and (λ x. is_among c (lane d x).taken) b
 
 -- the payload is handed up at a node that may: in downlink the terminal, in uplink another
 abbrev pub is_up_at : Node → Dir → Bool
-is_up_at x Dl = is_node x T
-is_up_at x Ul = not (is_node x T)
+is_up_at x Dl = is_same_node x T
+is_up_at x Ul = not (is_same_node x T)
 
 -- what is handed up was carried by a data PDU that the receiving entity's node took
 abbrev pub is_carried : Past → Line → Bool
@@ -59,7 +60,7 @@ is_within n reference c = nat_le reference (c + window n) && nat_lt c (reference
 
 -- the receiving entity of a direction is active at the receiver, in this generation
 abbrev pub is_active_at : LinkId → ℕ → Dir → Bearer → Bool
-is_active_at l g Dl b = is_node l.to T && is_number g b.terminal
+is_active_at l g Dl b = is_same_node l.to T && is_number g b.terminal
 is_active_at l g Ul b = holds l.to g b.holder
 
 -- the COUNT that is inferred from a data PDU is its tag

@@ -1,5 +1,6 @@
 -- Who has a bearer's active anchor, and what it alone may do.
 use Rattle.std.specs.Prelude.{Bool, Option, Some, false, true, ℕ, ◌&&◌, ◌||◌}
+use Rattle.dc_base.specs.Nodes.{is_same_node}
 use Rattle.dc_base.specs.declared.events.Line.{Line}
 use Rattle.dc_base.specs.declared.events.Line.TheVariants as line
 use Rattle.dc_base.specs.declared.events.Note.TheVariants as note
@@ -9,7 +10,7 @@ use Rattle.dc_base.specs.declared.nodes.Dir.TheVariants.{Dl, Ul}
 use Rattle.dc_base.specs.declared.nodes.LinkId.{LinkId}
 use Rattle.dc_base.specs.declared.nodes.Node.{Node}
 use Rattle.dc_base.specs.declared.nodes.Node.TheVariants.{T}
-use Rattle.claims.specs.Sameness.{is_node, is_none_or, is_some_and}
+use Rattle.claims.specs.Sameness.{is_none_or, is_some_and}
 use Rattle.claims.specs.Views.{Pdu, data_of}
 use Rattle.claims.specs.Past.{Bearer, Past}
 use Rattle.claims.specs.Reading.{Setting, anchor_in, bearer_of, holds, holds_any, is_open_at, latest, setting}
@@ -18,11 +19,11 @@ use Rattle.claims.specs.Protected.{is_copy, is_passed_on}
 
 -- no other node holds
 abbrev pub is_free_for : Node → Option (Node × ℕ) → Bool
-is_free_for x h = is_none_or (λ o. is_node x o.0) h
+is_free_for x h = is_none_or (λ o. is_same_node x o.0) h
 
 -- the node may become the holder: it is the anchor of the plan, and no other node holds
 abbrev pub may_own : Node → Option Setting → Option Bearer → Bool
-may_own x (Some s) (Some b) = is_node x (anchor_in s) && is_free_for x b.holder
+may_own x (Some s) (Some b) = is_same_node x (anchor_in s) && is_free_for x b.holder
 may_own x _ _ = false
 
 -- the node holds the bearer
@@ -41,7 +42,7 @@ may_send_pdu p l f u Dl = is_passed_on p l u || is_copy p l f || may_send p l.fr
 -- an `up` stands at the holder in uplink, at the terminal in downlink
 abbrev pub is_up_by : Node → Dir → Option Bearer → Bool
 is_up_by x Ul b = is_holder x b
-is_up_by x Dl b = is_node x T
+is_up_by x Dl b = is_same_node x T
 
 -- there is one holder; it gives, hands up in uplink, and sends in downlink, in its generation, once that is complete
 abbrev pub is_by_holder : Past → Line → Bool

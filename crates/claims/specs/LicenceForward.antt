@@ -4,6 +4,7 @@ use Rattle.std.specs.List.{filter_map, list_any}
 use Rattle.std.specs.Option.{option_and_then}
 use Rattle.std.specs.Prelude.{Bool, List, None, Option, Some, [], false, fold, if◌then◌else◌, is_none, is_some, max, not, true, ℕ, ◌&&◌, ◌+◌, ◌-◌, ◌==◌, ◌||◌, ◌∷◌}
 use Rattle.dc_base.specs.Count.{count_for}
+use Rattle.dc_base.specs.Nodes.{is_same_dir, is_same_node}
 use Rattle.dc_base.specs.declared.events.Event.{Event}
 use Rattle.dc_base.specs.declared.events.Event.TheVariants as event
 use Rattle.dc_base.specs.declared.events.Line.{Line}
@@ -24,7 +25,7 @@ use Rattle.gtpu.specs.declared.packet.PduNumber.{PduNumber}
 use Rattle.gtpu.specs.declared.packet.PduNumber.TheVariants.{Long, Short}
 use Rattle.key_chain.specs.KeyNames.{octets}
 use Rattle.pdcp_pdu.specs.StatusReport.{whole_bits}
-use Rattle.claims.specs.Sameness.{is_at, is_node, is_ok, is_payload, is_same_dir, is_same_octets, is_some_and, kept_if}
+use Rattle.claims.specs.Sameness.{is_at, is_ok, is_payload, is_same_octets, is_some_and, kept_if}
 use Rattle.claims.specs.Packets.{Packet, closing, downlink, forwarded, status, total, uplink}
 use Rattle.claims.specs.Views.{record_in}
 use Rattle.claims.specs.Past.{Bearer, Past}
@@ -45,7 +46,7 @@ is_sdu _ = false
 
 -- the path of a bearer has this generation, and goes to this node
 abbrev pub is_path : Node → ℕ → Option Setting → Option Bearer → Bool
-is_path x g s b = is_some_and (λ y. y.carried == g) b && is_some_and (λ t. is_node x (anchor_in t)) s
+is_path x g s b = is_some_and (λ y. y.carried == g) b && is_some_and (λ t. is_same_node x (anchor_in t)) s
 
 -- why an SDU goes on the feed: a submission just accepted, on the bearer's path, once
 abbrev pub feed_reason : Past → LinkId → ℕ → ℕ → List ℕ → Bool
@@ -59,7 +60,7 @@ is_end_of id g _ = false
 
 -- the plan moves the anchor away from this node
 abbrev pub moves_from : Node → Setting → Bool
-moves_from x s = is_at x s.old && not (is_node x (anchor_in s))
+moves_from x s = is_at x s.old && not (is_same_node x (anchor_in s))
 
 -- the plan of this generation was carried out last of the bearer's
 abbrev pub is_carried_in : ℕ → Option Bearer → Bool
@@ -74,7 +75,7 @@ end_reason p l id g =
 
 -- a line freezes the node's anchor for this change
 abbrev pub gives_now : Node → ℕ → ℕ → Line → Bool
-gives_now x id g (line.Note (note.Give y i h)) = is_node x y && (i == id) && (h == g)
+gives_now x id g (line.Note (note.Give y i h)) = is_same_node x y && (i == id) && (h == g)
 gives_now x id g _ = false
 
 -- it says exactly what is handed up and stored in uplink, and how far downlink is numbered
@@ -93,18 +94,18 @@ transfer_in _ = None
 
 -- the node is the new anchor
 abbrev pub is_new_anchor : Node → Option Setting → Bool
-is_new_anchor x s = is_some_and (λ t. is_node x (anchor_in t)) s
+is_new_anchor x s = is_some_and (λ t. is_same_node x (anchor_in t)) s
 
 -- a frozen anchor sends its transfer to the new one, a secondary by way of the master
 abbrev pub is_own_transfer : Past → LinkId → StatusTransfer → Bool
 is_own_transfer p l t =
     list_any (gives_now l.from t.id t.g) p.said && is_some_and (is_true_transfer p l.from t) (bearer_of p t.id t.g)
-    && (is_node l.to M || is_new_anchor l.to (setting p t.id t.g))
+    && (is_same_node l.to M || is_new_anchor l.to (setting p t.id t.g))
 
 -- the master passes one on to the new anchor
 abbrev pub is_passed_transfer : Past → LinkId → StatusTransfer → Bool
 is_passed_transfer p l t =
-    is_node l.from M && is_some_and (is_same_transfer t) (option_and_then transfer_in (given_record p)) && is_new_anchor l.to (setting p t.id t.g)
+    is_same_node l.from M && is_some_and (is_same_transfer t) (option_and_then transfer_in (given_record p)) && is_new_anchor l.to (setting p t.id t.g)
 
 -- why a transfer is sent
 abbrev pub transfer_reason : Past → LinkId → StatusTransfer → Bool
@@ -172,7 +173,7 @@ forwards_right p id g d k s octets _ _ = false
 
 -- the tunnel of a move: from the old anchor to the new one
 abbrev pub is_forward_link : LinkId → Option Setting → Bool
-is_forward_link l s = is_some_and (λ t. is_at l.from t.old && is_node l.to (anchor_in t) && not (is_node l.from l.to)) s
+is_forward_link l s = is_some_and (λ t. is_at l.from t.old && is_same_node l.to (anchor_in t) && not (is_same_node l.from l.to)) s
 
 -- an SDU of the feed was just taken
 abbrev pub is_feed_given : Past → Bool

@@ -2,6 +2,8 @@
 use Rattle.std.specs.List.{list_any}
 use Rattle.std.specs.Option.{option_map}
 use Rattle.std.specs.Prelude.{Bool, List, Option, false, filter, if◌then◌else◌, is_some, length, nat_lt, not, take, true, unwrap_or, ℕ, ◌&&◌, ◌-◌, ◌==◌, ◌||◌}
+use Rattle.dc_base.specs.Links.{is_same_link, reverse}
+use Rattle.dc_base.specs.Nodes.{is_same_node}
 use Rattle.dc_base.specs.declared.events.Event.{Event}
 use Rattle.dc_base.specs.declared.events.Event.TheVariants as event
 use Rattle.dc_base.specs.declared.events.Line.{Line}
@@ -19,8 +21,8 @@ use Rattle.dc_base.specs.declared.nodes.Node.TheVariants.{A, B, M, T}
 use Rattle.dc_base.specs.declared.records.Rec.{Rec}
 use Rattle.dc_base.specs.declared.records.Rec.TheVariants as rec
 use Rattle.transcript.specs.Text.{is_data}
-use Rattle.claims.specs.Links.{is_class, is_same_link, reverse}
-use Rattle.claims.specs.Sameness.{cell_number, implies, is_among, is_node, is_number, is_ok, is_same_number, is_some_and}
+use Rattle.claims.specs.Links.{is_class}
+use Rattle.claims.specs.Sameness.{cell_number, implies, is_among, is_number, is_ok, is_same_number, is_some_and}
 use Rattle.claims.specs.Shapes.{has_both, has_leg, primary}
 use Rattle.claims.specs.Confirming.{is_confirmed}
 use Rattle.claims.specs.Views.{Pdu, delivery_of}
@@ -37,7 +39,7 @@ said_pdus p = take (length p.pdus - length p.earlier) p.pdus
 
 -- a PDU of this node with the same identity, generation and COUNT
 abbrev pub is_send_of : Node → Pdu → LinkId × Pdu → Bool
-is_send_of x u (k, v) = is_node x k.from && (u.id == v.id) && (u.g == v.g) && is_same_number u.tag v.tag
+is_send_of x u (k, v) = is_same_node x k.from && (u.id == v.id) && (u.g == v.g) && is_same_number u.tag v.tag
 
 -- the plan has duplication active (TS 38.323, 5.11)
 abbrev pub is_dup : Option Setting → Bool
@@ -64,17 +66,17 @@ was_said p l u = nat_lt 0 (how_often_said p l u)
 -- a leg of the plan: from the terminal to a node that has one; from the anchor its own, or the tunnel to the host
 abbrev pub is_leg : LinkId → Setting → Bool
 is_leg l s =
-    if is_node l.from T then is_class Air l && has_leg s.sec s.shape l.to
-    else if is_class Air l then is_node l.to T && has_leg s.sec s.shape l.from
-    else is_class Tun l && has_leg s.sec s.shape l.to && not (is_node l.to l.from)
+    if is_same_node l.from T then is_class Air l && has_leg s.sec s.shape l.to
+    else if is_class Air l then is_same_node l.to T && has_leg s.sec s.shape l.from
+    else is_class Tun l && has_leg s.sec s.shape l.to && not (is_same_node l.to l.from)
 
 -- the node of a leg: that of its air link, or the host
 abbrev pub leg_node : LinkId → Node
-leg_node l = if is_node l.from T then l.to else if is_class Air l then l.from else l.to
+leg_node l = if is_same_node l.from T then l.to else if is_class Air l then l.from else l.to
 
 -- the leg is in the secondary cell group, and its sender knows that it failed
 abbrev pub is_known_failed : LinkId → ℕ → Bearer → Bool
-is_known_failed l g b = not (is_node (leg_node l) M) && knows_failure l.from g b
+is_known_failed l g b = not (is_same_node (leg_node l) M) && knows_failure l.from g b
 
 -- the link is a leg of the plan that its sender does not know to have failed
 abbrev pub is_on_leg : Past → LinkId → Pdu → Bearer → Bool
@@ -100,7 +102,7 @@ is_unconfirmed d c b = is_some_and (λ k. not (is_confirmed (lane d b).confirms 
 
 -- a line makes the node's anchor active in this generation
 abbrev pub owns_now : Node → ℕ → ℕ → Line → Bool
-owns_now x id g (line.Note (note.Own y i h)) = is_node x y && (i == id) && (h == g)
+owns_now x id g (line.Note (note.Own y i h)) = is_same_node x y && (i == id) && (h == g)
 owns_now x id g _ = false
 
 -- pairs list this identity and generation
@@ -127,7 +129,7 @@ is_recover_of id _ = false
 -- the event makes the node recover a generation of an identity
 abbrev pub recovers : Past → Node → ℕ → ℕ → Bool
 recovers p x id g =
-    (is_node x M && is_recover_of id p.event && is_ok p.answer) || (given_to x p && is_some_and (recovers_by x id g) (given_record p))
+    (is_same_node x M && is_recover_of id p.event && is_ok p.answer) || (given_to x p && is_some_and (recovers_by x id g) (given_record p))
     || list_any (owns_now x id g) p.said
 
 -- a PDU that was sent has this COUNT, and a number that is listed for the first time
@@ -145,7 +147,7 @@ is_due_pdu p l u =
 
 -- it is passed on once
 abbrev pub is_passed_once : Past → LinkId → Pdu → Bool
-is_passed_once p l u = is_passed_on p l u && not (list_any (λ s. is_node l.from s.0.from && is_same_pdu u s.1) (said_pdus p))
+is_passed_once p l u = is_passed_on p l u && not (list_any (λ s. is_same_node l.from s.0.from && is_same_pdu u s.1) (said_pdus p))
 
 -- in a tunnel it is marked as a repeat where it was sent before in its generation
 abbrev pub has_right_mark : Past → LinkId → Pdu → Bool
@@ -165,7 +167,7 @@ data_reason p l u =
 
 -- the event asks this node for a report of the identity
 abbrev pub is_report_of : Node → ℕ → Event → Bool
-is_report_of x id (event.Report y i) = is_node x y && (i == id)
+is_report_of x id (event.Report y i) = is_same_node x y && (i == id)
 is_report_of x id _ = false
 
 -- the PDU is a control PDU
@@ -200,7 +202,7 @@ acks_for k g b s = receives k g s (direction_in k s) b && not (is_known_failed (
 
 -- a node that has a leg for another node's anchor acks as well
 abbrev pub is_host_of : Node → Setting → Bool
-is_host_of x s = not (is_node x T) && not (is_node x (anchor_in s)) && has_leg s.sec s.shape x
+is_host_of x s = not (is_same_node x T) && not (is_same_node x (anchor_in s)) && has_leg s.sec s.shape x
 
 -- the PDU just taken may be acked by its receiver
 abbrev pub may_ack : Past → LinkId → ℕ → ℕ → Bool
@@ -214,7 +216,7 @@ acks p l id g num _ = false
 -- an ack was just taken by the host of this identity and generation
 abbrev pub is_ack_at_host : Past → LinkId → ℕ → ℕ → LinkId × Flight → Bool
 is_ack_at_host p l id g (k, flight.Ack i h m) =
-    is_node k.from T && is_node k.to l.from && (i == id) && (h == g) && is_some_and (λ s. is_node l.to (anchor_in s) && is_host_of l.from s) (setting p id g)
+    is_same_node k.from T && is_same_node k.to l.from && (i == id) && (h == g) && is_some_and (λ s. is_same_node l.to (anchor_in s) && is_host_of l.from s) (setting p id g)
 is_ack_at_host p l id g _ = false
 
 -- the flight is a delivery status

@@ -2,6 +2,8 @@
 use Rattle.std.specs.List.{filter_map, list_all, list_any}
 use Rattle.std.specs.Option.{option_and_then, option_map}
 use Rattle.std.specs.Prelude.{Bool, List, None, Option, Some, [], false, if◌then◌else◌, is_none, is_some, nat_le, not, true, unwrap_or, ℕ, ◌&&◌, ◌==◌, ◌||◌, ◌∷◌}
+use Rattle.dc_base.specs.Links.{is_same_link}
+use Rattle.dc_base.specs.Nodes.{is_same_node}
 use Rattle.dc_base.specs.declared.answers.Word.{Word}
 use Rattle.dc_base.specs.declared.answers.Word.TheVariants as word
 use Rattle.dc_base.specs.declared.events.Event.{Event}
@@ -20,8 +22,7 @@ use Rattle.dc_base.specs.declared.records.Item.TheVariants.{Set, Unset}
 use Rattle.dc_base.specs.declared.records.Plan.{Plan}
 use Rattle.dc_base.specs.declared.records.Rec.{Rec}
 use Rattle.dc_base.specs.declared.records.Rec.TheVariants as rec
-use Rattle.claims.specs.Links.{is_same_link}
-use Rattle.claims.specs.Sameness.{flag_number, implies, is_among, is_at, is_node, is_number, is_ok, is_same_want, is_same_word, is_some_and}
+use Rattle.claims.specs.Sameness.{flag_number, implies, is_among, is_at, is_number, is_ok, is_same_want, is_same_word, is_some_and}
 use Rattle.claims.specs.Shapes.{other_second}
 use Rattle.claims.specs.Views.{record_in}
 use Rattle.claims.specs.Table.{Command, Kind, change, command_has, is_change, recovery}
@@ -272,7 +273,7 @@ is_scgfail _ = false
 
 -- the event is this request of this node
 abbrev pub is_ask : Node → Want → Event → Bool
-is_ask x w (event.Ask y v) = is_node x y && is_same_want w v
+is_ask x w (event.Ask y v) = is_same_node x y && is_same_want w v
 is_ask x w _ = false
 
 -- a record lists this identity and generation
@@ -297,7 +298,7 @@ is_moved_of id g _ = false
 
 -- the master knows that a bearer is adopted: its own anchor is active, or it took the `moved`
 abbrev pub is_adopted_by : Past → ℕ → ℕ → Setting → Bearer → Bool
-is_adopted_by p id g s b = if is_node M (anchor_in s) then nat_le g b.owned else list_any (λ r. is_some_and (is_moved_of id g) (record_in r.1)) p.arrived
+is_adopted_by p id g s b = if is_same_node M (anchor_in s) then nat_le g b.owned else list_any (λ r. is_some_and (is_moved_of id g) (record_in r.1)) p.arrived
 
 -- where the plan moves it
 abbrev pub is_adopted : Past → ℕ → Item → Bool
@@ -324,7 +325,7 @@ may_end p (recovery id) = not (list_any (λ s. is_some_and (is_recovery_record i
 
 -- an order to recover goes to the terminal, and to a secondary that holds the bearer
 abbrev pub orders_recovery : Past → Node → ℕ → Bool
-orders_recovery p x id = is_recover_of id p.event && is_ok p.answer && (is_node x T || is_holder x (latest p id))
+orders_recovery p x id = is_recover_of id p.event && is_ok p.answer && (is_same_node x T || is_holder x (latest p id))
 
 -- the completion goes to the secondary that was asked for an addition or a modification, or asked for the change
 abbrev pub is_told_complete : Node → Command → Bool

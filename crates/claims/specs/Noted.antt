@@ -1,5 +1,6 @@
 -- The step of a line, and the fold.
 use Rattle.std.specs.Prelude.{Bool, List, None, Option, Some, [], false, filter, fold, if◌then◌else◌, map, not, true, ℕ, ◌&&◌, ◌++◌, ◌==◌, ◌∷◌}
+use Rattle.dc_base.specs.Nodes.{is_same_node}
 use Rattle.dc_base.specs.declared.events.Header.{Header}
 use Rattle.dc_base.specs.declared.events.Line.{Line}
 use Rattle.dc_base.specs.declared.events.Line.TheVariants as line
@@ -14,7 +15,6 @@ use Rattle.dc_base.specs.declared.nodes.Want.{Want}
 use Rattle.dc_base.specs.declared.records.Rec.{Rec}
 use Rattle.dc_base.specs.declared.records.Rec.TheVariants as rec
 use Rattle.transcript.specs.Transcript.{Entry}
-use Rattle.claims.specs.Sameness.{is_node}
 use Rattle.claims.specs.Packets.{Packet, closing, forwarded, total}
 use Rattle.claims.specs.Views.{Pdu, packet_in, pdu_of}
 use Rattle.claims.specs.Table.{Command, is_change}
@@ -29,7 +29,7 @@ use Rattle.claims.specs.Judged.{judged}
 
 -- a report that this node took while it waited for this generation
 abbrev pub is_kept_by : Node → ℕ → Waiting → Bool
-is_kept_by x g w = is_node x w.node && (w.g == g)
+is_kept_by x g w = is_same_node x w.node && (w.g == g)
 
 -- an anchor becomes active: it takes Low over, and then the reports count that it took while it was waiting
 abbrev pub owned_by : Node → ℕ → Bearer → Bearer

@@ -1,6 +1,8 @@
 -- The numbers of PDUs on their legs, of frames in their tunnels, and of forwarded packets.
 use Rattle.std.specs.Option.{option_map}
 use Rattle.std.specs.Prelude.{Bool, List, fold, if◌then◌else◌, max, true, unwrap_or, ℕ, ◌&&◌, ◌+◌, ◌==◌, ◌||◌}
+use Rattle.dc_base.specs.Links.{is_same_link}
+use Rattle.dc_base.specs.Nodes.{is_same_dir}
 use Rattle.dc_base.specs.declared.events.Line.{Line}
 use Rattle.dc_base.specs.declared.events.Line.TheVariants as line
 use Rattle.dc_base.specs.declared.flights.Flight.{Flight}
@@ -9,8 +11,7 @@ use Rattle.dc_base.specs.declared.nodes.LinkId.{LinkId}
 use Rattle.key_chain.specs.KeyNames.{octets}
 use Rattle.pdcp_pdu.specs.StatusReport.{report_pdu}
 use Rattle.transcript.specs.Text.{is_data}
-use Rattle.claims.specs.Links.{is_same_link}
-use Rattle.claims.specs.Sameness.{is_none_or, is_same_dir, is_same_octets, is_some_and}
+use Rattle.claims.specs.Sameness.{is_none_or, is_same_octets, is_some_and}
 use Rattle.claims.specs.Packets.{Packet, forwarded, total}
 use Rattle.claims.specs.Views.{Pdu, packet_in, pdu_of}
 use Rattle.claims.specs.Past.{Bearer, Past}

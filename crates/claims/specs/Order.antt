@@ -2,6 +2,7 @@
 use Rattle.std.specs.List.{last_or}
 use Rattle.std.specs.Option.{option_map}
 use Rattle.std.specs.Prelude.{Bool, List, None, Option, Some, [], false, if◌then◌else◌, nat_lt, true, unwrap_or, ℕ, ◌&&◌, ◌+◌, ◌==◌, ◌||◌, ◌∷◌}
+use Rattle.dc_base.specs.Links.{all_links, is_same_link}
 use Rattle.dc_base.specs.declared.events.Line.{Line}
 use Rattle.dc_base.specs.declared.events.Line.TheVariants as line
 use Rattle.dc_base.specs.declared.events.Note.{Note}
@@ -11,7 +12,6 @@ use Rattle.dc_base.specs.declared.flights.Flight.TheVariants as flight
 use Rattle.dc_base.specs.declared.nodes.LinkId.{LinkId}
 use Rattle.dc_base.specs.declared.records.Rec.{Rec}
 use Rattle.dc_base.specs.declared.records.Rec.TheVariants as rec
-use Rattle.claims.specs.Links.{is_same_link, links}
 use Rattle.claims.specs.Sameness.{is_none_or}
 use Rattle.claims.specs.Packets.{Packet, closing, forwarded, kind_of, packet_of, total}
 use Rattle.claims.specs.Views.{packet_owner}
@@ -68,7 +68,7 @@ place_of_flight (flight.Ctl r) = place_of_record r
 -- the place of a line
 abbrev pub place : Line → List ℕ
 place (line.Note n) = place_of_note n
-place (line.Send l f) = 5 ∷ place_of 0 l links ∷ place_of_flight f
+place (line.Send l f) = 5 ∷ place_of 0 l all_links ∷ place_of_flight f
 place (line.Event e) = []
 place (line.Answer a) = []
 

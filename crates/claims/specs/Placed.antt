@@ -2,6 +2,8 @@
 use Rattle.std.specs.List.{filter_map, list_all, list_any, range_with_len}
 use Rattle.std.specs.Option.{option_and_then}
 use Rattle.std.specs.Prelude.{Bool, None, Option, Some, false, if◌then◌else◌, is_some, nat_lt, not, true, ℕ, ◌&&◌, ◌+◌, ◌==◌, ◌||◌}
+use Rattle.dc_base.specs.Links.{link}
+use Rattle.dc_base.specs.Nodes.{is_same_dir, is_same_node}
 use Rattle.dc_base.specs.declared.answers.Word.{Word}
 use Rattle.dc_base.specs.declared.events.Line.{Line}
 use Rattle.dc_base.specs.declared.events.Line.TheVariants as line
@@ -17,8 +19,7 @@ use Rattle.dc_base.specs.declared.nodes.Node.{Node}
 use Rattle.dc_base.specs.declared.nodes.Node.TheVariants.{A, B, M, T}
 use Rattle.dc_base.specs.declared.records.Rec.{Rec}
 use Rattle.dc_base.specs.declared.records.Rec.TheVariants as rec
-use Rattle.claims.specs.Links.{link}
-use Rattle.claims.specs.Sameness.{is_node, is_number, is_same_dir, is_same_word, is_some_and}
+use Rattle.claims.specs.Sameness.{is_number, is_same_word, is_some_and}
 use Rattle.claims.specs.Packets.{Packet, packet_of, total}
 use Rattle.claims.specs.Views.{packet_in, record_in}
 use Rattle.claims.specs.Table.{command_has, is_change}
@@ -56,7 +57,7 @@ is_carrying p B g = is_accepting p B g || (given_to B p && gives_record (tells_l
 
 -- the node took a flight of which the test holds
 abbrev pub has_arrived : Past → Node → (Flight → Bool) → Bool
-has_arrived p x f = list_any (λ s. is_node s.0.to x && f s.1) p.arrived
+has_arrived p x f = list_any (λ s. is_same_node s.0.to x && f s.1) p.arrived
 
 -- the flight is the transfer of this identity and generation
 abbrev pub is_transfer_of : ℕ → ℕ → Flight → Bool
@@ -70,7 +71,7 @@ total_in id g d _ = None
 -- the first total that a node took
 abbrev pub total_at : Past → Node → ℕ → ℕ → Dir → Option ℕ
 total_at p x id g d =
-    first_of (filter_map (λ (s : LinkId × Flight). if is_node s.0.to x then option_and_then (total_in id g d) (packet_in s.1) else None) p.arrived)
+    first_of (filter_map (λ (s : LinkId × Flight). if is_same_node s.0.to x then option_and_then (total_in id g d) (packet_in s.1) else None) p.arrived)
 
 -- the flight is the forwarded SDU of this number
 abbrev pub is_forward_of : ℕ → ℕ → Dir → ℕ → Flight → Bool

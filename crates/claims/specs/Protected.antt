@@ -1,6 +1,8 @@
 -- Each data PDU protects its submission (TS 38.323, 5.8; TS 33.401, B.2), and comes from where it may.
 use Rattle.std.specs.Prelude.{Bool, List, Option, Some, false, length, replicate, true, ℕ, ◌&&◌, ◌==◌, ◌||◌}
 use Rattle.dc_base.specs.Count.{sn}
+use Rattle.dc_base.specs.Links.{is_same_link}
+use Rattle.dc_base.specs.Nodes.{is_same_node}
 use Rattle.dc_base.specs.declared.events.Line.{Line}
 use Rattle.dc_base.specs.declared.events.Line.TheVariants as line
 use Rattle.dc_base.specs.declared.flights.Flight.{Flight}
@@ -16,8 +18,7 @@ use Rattle.key_chain.specs.KeyNames.{octets, upenc}
 use Rattle.nea2.specs.Combined.{combined}
 use Rattle.nea2.specs.Keystream.{keystream}
 use Rattle.pdcp_pdu.specs.DataPdu.{data_pdu}
-use Rattle.claims.specs.Links.{is_same_link}
-use Rattle.claims.specs.Sameness.{is_node, is_none_or, is_same_number, is_same_octets, is_some_and}
+use Rattle.claims.specs.Sameness.{is_none_or, is_same_number, is_same_octets, is_some_and}
 use Rattle.claims.specs.Views.{Pdu, data_of, pdu_of}
 use Rattle.claims.specs.Past.{Bearer, Past}
 use Rattle.claims.specs.Reading.{Setting, anchor_in, bearer_of, setting, submission}
@@ -59,12 +60,12 @@ is_same_pdu u v = (u.id == v.id) && (u.g == v.g) && is_same_number u.tag v.tag &
 
 -- it is passed on: the node took this PDU in this event
 abbrev pub is_passed_on : Past → LinkId → Pdu → Bool
-is_passed_on p l u = is_some_and (λ s. is_node s.0.to l.from && is_some_and (is_same_pdu u) (pdu_of s.1)) p.given
+is_passed_on p l u = is_some_and (λ s. is_same_node s.0.to l.from && is_some_and (is_same_pdu u) (pdu_of s.1)) p.given
 
 -- the node numbers the PDUs of a direction: the terminal, or the anchor of the plan
 abbrev pub is_origin : LinkId → Dir → Option Setting → Bool
-is_origin l Ul s = is_node l.from T
-is_origin l Dl s = is_some_and (λ t. is_node l.from (anchor_in t)) s
+is_origin l Ul s = is_same_node l.from T
+is_origin l Dl s = is_some_and (λ t. is_same_node l.from (anchor_in t)) s
 
 -- a data PDU protects a submission; it comes from the terminal or the anchor of its plan, or is passed on or copied
 abbrev pub is_protected_pdu : Past → LinkId → Flight → Pdu → Bool

@@ -2,6 +2,8 @@
 use Rattle.std.specs.List.{filter_map, find, list_any}
 use Rattle.std.specs.Option.{option_and_then, option_map}
 use Rattle.std.specs.Prelude.{Bool, List, None, Option, Some, [], false, filter, fold, if◌then◌else◌, length, map, nat_le, nat_lt, not, slice_get, true, ℕ, ◌&&◌, ◌+◌, ◌-◌, ◌==◌, ◌∷◌}
+use Rattle.dc_base.specs.Links.{is_same_link}
+use Rattle.dc_base.specs.Nodes.{is_same_node}
 use Rattle.dc_base.specs.declared.events.Line.{Line}
 use Rattle.dc_base.specs.declared.events.Line.TheVariants as line
 use Rattle.dc_base.specs.declared.flights.Flight.{Flight}
@@ -17,8 +19,7 @@ use Rattle.dc_base.specs.declared.records.Item.{Item}
 use Rattle.dc_base.specs.declared.records.Item.TheVariants.{Set, Unset}
 use Rattle.dc_base.specs.declared.records.Plan.{Plan}
 use Rattle.dc_base.specs.declared.records.Rec.{Rec}
-use Rattle.claims.specs.Links.{is_same_link}
-use Rattle.claims.specs.Sameness.{is_among, is_node, is_number, is_some_and, kept_if}
+use Rattle.claims.specs.Sameness.{is_among, is_number, is_some_and, kept_if}
 use Rattle.claims.specs.Shapes.{anchor_at, has_leg_left}
 use Rattle.claims.specs.Confirming.{least_but, unconfirmed_from}
 use Rattle.claims.specs.Views.{record_in}
@@ -63,7 +64,7 @@ anchor_in s = anchor_at s.sec s.shape
 
 -- the anchor moves: there was one, at another node
 abbrev pub is_moved : Setting → Bool
-is_moved s = is_some_and (λ x. not (is_node x (anchor_in s))) s.old
+is_moved s = is_some_and (λ x. not (is_same_node x (anchor_in s))) s.old
 
 -- ---- bearers
 
@@ -117,15 +118,15 @@ stored d b = fold (λ xs c. with_count c xs) [] (filter (nat_lt (deliv d b)) (la
 
 -- the node's anchor is active in this generation
 abbrev pub holds : Node → ℕ → Option (Node × ℕ) → Bool
-holds x g h = is_some_and (λ o. is_node x o.0 && (o.1 == g)) h
+holds x g h = is_some_and (λ o. is_same_node x o.0 && (o.1 == g)) h
 
 -- in some generation
 abbrev pub holds_any : Node → Option (Node × ℕ) → Bool
-holds_any x h = is_some_and (λ o. is_node x o.0) h
+holds_any x h = is_some_and (λ o. is_same_node x o.0) h
 
 -- the generation in which it is, if it is there
 abbrev pub generation_at : Node → Option (Node × ℕ) → Option ℕ
-generation_at x h = option_map (λ o. o.1) (kept_if (λ o. is_node x o.0) h)
+generation_at x h = option_map (λ o. o.1) (kept_if (λ o. is_same_node x o.0) h)
 
 -- the generation that a node sends and receives in: that of the terminal, or of the active anchor there
 abbrev pub current : Node → Bearer → Option ℕ
@@ -137,9 +138,9 @@ current B b = generation_at B b.holder
 -- a node knows that the SCG leg of a generation failed
 abbrev pub knows_failure : Node → ℕ → Bearer → Bool
 knows_failure T g b = b.is_failed && is_number g b.terminal
-knows_failure M g b = list_any (λ w. is_node M w.0 && (w.1 == g)) b.warned
-knows_failure A g b = list_any (λ w. is_node A w.0 && (w.1 == g)) b.warned
-knows_failure B g b = list_any (λ w. is_node B w.0 && (w.1 == g)) b.warned
+knows_failure M g b = list_any (λ w. is_same_node M w.0 && (w.1 == g)) b.warned
+knows_failure A g b = list_any (λ w. is_same_node A w.0 && (w.1 == g)) b.warned
+knows_failure B g b = list_any (λ w. is_same_node B w.0 && (w.1 == g)) b.warned
 
 -- the direction that a node receives
 abbrev pub received_at : Node → Dir
@@ -160,8 +161,8 @@ sent_by B = Dl
 abbrev pub is_open_at : Past → Node → ℕ → Bool
 is_open_at p T g = true
 is_open_at p M g = is_among g p.completed
-is_open_at p A g = is_among g p.completed && list_any (λ c. is_node A c.0 && (c.1 == g)) p.configured
-is_open_at p B g = is_among g p.completed && list_any (λ c. is_node B c.0 && (c.1 == g)) p.configured
+is_open_at p A g = is_among g p.completed && list_any (λ c. is_same_node A c.0 && (c.1 == g)) p.configured
+is_open_at p B g = is_among g p.completed && list_any (λ c. is_same_node B c.0 && (c.1 == g)) p.configured
 
 -- the node sends in this generation, and has a leg left
 abbrev pub can_send : Past → Node → ℕ → Bearer → Option Setting → Bool
@@ -171,12 +172,12 @@ can_send p x g b s = is_open_at p x g && is_some_and (λ t. has_leg_left (knows_
 
 -- a flight is a downlink SDU of the bearer, on its way to the node
 abbrev pub is_sdu_for : Past → Node → Bearer → LinkId × Flight → Bool
-is_sdu_for p x b (l, flight.Sdu id g sdu) = is_node l.to x && (id == b.id) && is_some_and (λ c. c.g == b.g) (bearer_of p id g)
+is_sdu_for p x b (l, flight.Sdu id g sdu) = is_same_node l.to x && (id == b.id) && is_some_and (λ c. c.g == b.g) (bearer_of p id g)
 is_sdu_for p x b _ = false
 
 -- how many downlink submissions went to the node's anchor: all, or those from before the plan that moved it away
 abbrev pub directed : Node → Bearer → Option Setting → ℕ
-directed x b s = if is_some_and (λ t. is_node x (anchor_in t)) s then length b.down.submitted else b.before
+directed x b s = if is_some_and (λ t. is_same_node x (anchor_in t)) s then length b.down.submitted else b.before
 
 -- how many of them reached it: all but those that still stand on its feed
 abbrev pub reached : Past → Node → Bearer → ℕ
@@ -228,11 +229,11 @@ given_record p = option_and_then (λ s. record_in s.1) p.given
 
 -- it gives a flight from this node
 abbrev pub given_from : Node → Past → Bool
-given_from x p = is_some_and (λ s. is_node x s.0.from) p.given
+given_from x p = is_some_and (λ s. is_same_node x s.0.from) p.given
 
 -- or to this node
 abbrev pub given_to : Node → Past → Bool
-given_to x p = is_some_and (λ s. is_node x s.0.to) p.given
+given_to x p = is_some_and (λ s. is_same_node x s.0.to) p.given
 
 -- ---- changing a bearer
 

@@ -1,6 +1,7 @@
 -- What secondaries are answered, and what they ask for: where it is due, and wherever it is.
 use Rattle.std.specs.List.{list_any}
 use Rattle.std.specs.Prelude.{Bool, List, false, is_none, is_some, not, true, ◌&&◌, ◌||◌}
+use Rattle.dc_base.specs.Nodes.{is_same_node}
 use Rattle.dc_base.specs.declared.answers.Word.TheVariants as word
 use Rattle.dc_base.specs.declared.events.Event.TheVariants as event
 use Rattle.dc_base.specs.declared.events.Line.{Line}
@@ -15,7 +16,7 @@ use Rattle.dc_base.specs.declared.nodes.Want.TheVariants as want
 use Rattle.dc_base.specs.declared.records.Rec.{Rec}
 use Rattle.dc_base.specs.declared.records.Rec.TheVariants as rec
 use Rattle.transcript.specs.Transcript.{Entry}
-use Rattle.claims.specs.Sameness.{implies, is_at, is_node, is_none_or, is_same_want, is_same_word, is_some_and}
+use Rattle.claims.specs.Sameness.{implies, is_at, is_none_or, is_same_want, is_same_word, is_some_and}
 use Rattle.claims.specs.Views.{record_in}
 use Rattle.claims.specs.Past.{Past}
 use Rattle.claims.specs.Reading.{second, sends_in}
@@ -58,7 +59,7 @@ sends_record f xs = list_any (λ s. is_some_and f (record_in s.1)) (sends_in xs)
 
 -- to this node
 abbrev pub sends_record_to : Node → (Rec → Bool) → List Line → Bool
-sends_record_to x f xs = list_any (λ s. is_node x s.0.to && is_some_and f (record_in s.1)) (sends_in xs)
+sends_record_to x f xs = list_any (λ s. is_same_node x s.0.to && is_some_and f (record_in s.1)) (sends_in xs)
 
 -- an answer to a request
 abbrev pub is_reply : Rec → Bool

@@ -3,6 +3,7 @@ use Rattle.std.specs.List.{list_any}
 use Rattle.std.specs.Option.{option_map}
 use Rattle.std.specs.Prelude.{Bool, List, None, Option, Some, [], false, if◌then◌else◌, not, true, ℕ, ◌&&◌, ◌*◌, ◌+◌, ◌==◌, ◌||◌, ◌∷◌}
 use Rattle.dc_base.specs.Count.{bits}
+use Rattle.dc_base.specs.Nodes.{is_same_node, node_number}
 use Rattle.dc_base.specs.declared.answers.Answer.{Answer}
 use Rattle.dc_base.specs.declared.answers.Answer.TheVariants as answer
 use Rattle.dc_base.specs.declared.answers.Refusal.{Refusal}
@@ -11,8 +12,6 @@ use Rattle.dc_base.specs.declared.answers.Word.{Word}
 use Rattle.dc_base.specs.declared.answers.Word.TheVariants as word
 use Rattle.dc_base.specs.declared.nodes.Cell.{Cell}
 use Rattle.dc_base.specs.declared.nodes.Cell.TheVariants as cell
-use Rattle.dc_base.specs.declared.nodes.Dir.{Dir}
-use Rattle.dc_base.specs.declared.nodes.Dir.TheVariants.{Dl, Ul}
 use Rattle.dc_base.specs.declared.nodes.KeyName.{KeyName}
 use Rattle.dc_base.specs.declared.nodes.LegSet.{LegSet}
 use Rattle.dc_base.specs.declared.nodes.LegSet.TheVariants.{Mcg, Scg, Split}
@@ -25,7 +24,6 @@ use Rattle.dc_base.specs.declared.nodes.Want.TheVariants as want
 use Rattle.dc_base.specs.declared.records.Item.{Item}
 use Rattle.dc_base.specs.declared.records.Item.TheVariants.{Set, Unset}
 use Rattle.dc_base.specs.declared.records.Plan.{Plan}
-use Rattle.claims.specs.Links.{node_number}
 
 -- it is there, and the test holds of it
 abbrev pub is_some_and : {X : Type 0} → (X → Bool) → Option X → Bool
@@ -46,11 +44,6 @@ kept_if f (Some x) = if f x then Some x else None
 abbrev pub implies : Bool → Bool → Bool
 implies a b = not a || b
 
--- a direction as a number
-abbrev pub dir_number : Dir → ℕ
-dir_number Ul = 0
-dir_number Dl = 1
-
 -- a cell group as a number
 abbrev pub cell_number : Cell → ℕ
 cell_number cell.Mcg = 0
@@ -62,21 +55,13 @@ legs_number Mcg = 0
 legs_number Scg = 1
 legs_number (Split primary) = 2 + cell_number primary
 
--- one node
-abbrev pub is_node : Node → Node → Bool
-is_node x y = node_number x == node_number y
-
 -- the node that may be there is this one
 abbrev pub is_at : Node → Option Node → Bool
-is_at x o = is_some_and (is_node x) o
+is_at x o = is_some_and (is_same_node x) o
 
 -- the number that may be there is this one
 abbrev pub is_number : ℕ → Option ℕ → Bool
 is_number k o = is_some_and (λ h. k == h) o
-
--- both directions are uplink, or both are downlink
-abbrev pub is_same_dir : Dir → Dir → Bool
-is_same_dir d e = dir_number d == dir_number e
 
 -- the same octets
 abbrev pub is_same_octets : List ℕ → List ℕ → Bool
@@ -101,8 +86,8 @@ is_same_number (Some x) (Some y) = x == y
 is_same_number _ _ = false
 
 -- the same node, or none on both sides
-abbrev pub is_same_node : Option Node → Option Node → Bool
-is_same_node x y = is_same_number (option_map node_number x) (option_map node_number y)
+abbrev pub are_same_nodes : Option Node → Option Node → Bool
+are_same_nodes x y = is_same_number (option_map node_number x) (option_map node_number y)
 
 -- the number is among these
 abbrev pub is_among : ℕ → List ℕ → Bool
@@ -181,7 +166,7 @@ is_ok x = answer_number x == 0
 -- the same item of a plan
 abbrev pub is_same_item : Item → Item → Bool
 is_same_item (Set i n f s t p k o) (Set i' n' f' s' t' p' k' o') =
-    (i == i') && (bits n == bits n') && (f == f') && (shape_number s == shape_number s') && (t == t') && (p == p') && is_same_key k k' && is_same_node o o'
+    (i == i') && (bits n == bits n') && (f == f') && (shape_number s == shape_number s') && (t == t') && (p == p') && is_same_key k k' && are_same_nodes o o'
 is_same_item (Unset i) (Unset i') = i == i'
 is_same_item _ _ = false
 
@@ -193,4 +178,4 @@ are_same_items _ _ = false
 
 -- the same plan
 abbrev pub is_same_plan : Plan → Plan → Bool
-is_same_plan x y = (x.g == y.g) && is_same_node x.sec y.sec && are_same_items x.items y.items
+is_same_plan x y = (x.g == y.g) && are_same_nodes x.sec y.sec && are_same_items x.items y.items

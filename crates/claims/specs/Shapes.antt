@@ -1,5 +1,6 @@
 -- Shapes and the legs they give (TS 37.340, 4.2.2).
 use Rattle.std.specs.Prelude.{Bool, None, Option, Some, false, if◌then◌else◌, not, true, ◌&&◌, ◌||◌}
+use Rattle.dc_base.specs.Nodes.{is_same_node}
 use Rattle.dc_base.specs.declared.nodes.Cell.{Cell}
 use Rattle.dc_base.specs.declared.nodes.Cell.TheVariants as cell
 use Rattle.dc_base.specs.declared.nodes.LegSet.{LegSet}
@@ -7,7 +8,7 @@ use Rattle.dc_base.specs.declared.nodes.LegSet.TheVariants.{Mcg, Scg, Split}
 use Rattle.dc_base.specs.declared.nodes.Node.{Node}
 use Rattle.dc_base.specs.declared.nodes.Node.TheVariants.{A, B, M, T}
 use Rattle.dc_base.specs.declared.nodes.Shape.{Shape}
-use Rattle.claims.specs.Sameness.{is_at, is_node}
+use Rattle.claims.specs.Sameness.{is_at}
 
 -- the anchor's node where it is the secondary; the master if there is none
 abbrev pub node_or_master : Option Node → Node
@@ -30,17 +31,13 @@ has_scg Mcg = false
 has_scg Scg = true
 has_scg (Split primary) = true
 
--- anchor and only leg are at the master
-abbrev pub is_mm : Shape → Bool
-is_mm s = not s.at_second && not (has_scg s.legs)
-
--- that shape
+-- the shape with anchor and only leg at the master
 abbrev pub mm : Shape
 mm = record { at_second = false; legs = Mcg; dup = false }
 
 -- the node has a leg of this shape
 abbrev pub has_leg : Option Node → Shape → Node → Bool
-has_leg sec s x = (is_node x M && has_mcg s.legs) || (is_at x sec && has_scg s.legs)
+has_leg sec s x = (is_same_node x M && has_mcg s.legs) || (is_at x sec && has_scg s.legs)
 
 -- some leg is there, where the one in the secondary cell group may have failed
 abbrev pub has_leg_left : Bool → LegSet → Bool

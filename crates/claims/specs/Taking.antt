@@ -2,6 +2,8 @@
 use Rattle.std.specs.List.{filter_map, find, list_any}
 use Rattle.std.specs.Option.{option_and_then, option_map}
 use Rattle.std.specs.Prelude.{Bool, List, None, Option, Some, [], false, filter, fold, if◌then◌else◌, is_some, map, max, nat_le, nat_lt, not, true, ℕ, ◌&&◌, ◌++◌, ◌==◌, ◌||◌, ◌∷◌}
+use Rattle.dc_base.specs.Links.{is_same_link, reverse}
+use Rattle.dc_base.specs.Nodes.{is_same_node}
 use Rattle.dc_base.specs.declared.flights.Flight.{Flight}
 use Rattle.dc_base.specs.declared.flights.Flight.TheVariants as flight
 use Rattle.dc_base.specs.declared.nodes.Dir.{Dir}
@@ -18,8 +20,7 @@ use Rattle.dc_base.specs.declared.records.Rec.TheVariants as rec
 use Rattle.nr_u.specs.declared.frame.Range.{Range}
 use Rattle.pdcp_pdu.specs.Pdu.{decoded}
 use Rattle.transcript.specs.Text.{is_data}
-use Rattle.claims.specs.Links.{is_same_link, reverse}
-use Rattle.claims.specs.Sameness.{is_node, is_number, is_some_and, kept_if}
+use Rattle.claims.specs.Sameness.{is_number, is_some_and, kept_if}
 use Rattle.claims.specs.Packets.{packet_of}
 use Rattle.claims.specs.Confirming.{Confirmation, acked}
 use Rattle.claims.specs.Views.{Delivery, Pdu, delivery_in, forwarding_in, pdu_in, pdu_of, report_in}
@@ -49,7 +50,7 @@ confirmed_by Dl cs b =
 
 -- the direction of a PDU: from the terminal or to it, and in a tunnel from the anchor of its plan or to it
 abbrev pub direction_in : LinkId → Setting → Dir
-direction_in l s = if is_node l.from T then Ul else if is_node l.to T then Dl else if is_node l.from (anchor_in s) then Dl else Ul
+direction_in l s = if is_same_node l.from T then Ul else if is_same_node l.to T then Dl else if is_same_node l.from (anchor_in s) then Dl else Ul
 
 -- the direction by a setting that may be there
 abbrev pub direction_with : LinkId → Option Setting → Dir
@@ -62,11 +63,11 @@ direction_of p l u = direction_with l (setting p u.id u.g)
 
 -- the terminal has the generation, and did not mark the leg as failed
 abbrev pub is_live : LinkId → ℕ → Bearer → Bool
-is_live l g b = is_node l.to T && is_number g b.terminal && (is_node l.from M || not b.is_failed)
+is_live l g b = is_same_node l.to T && is_number g b.terminal && (is_same_node l.from M || not b.is_failed)
 
 -- the node's anchor waits for this generation: it is the anchor of the plan, and did not become active in it
 abbrev pub is_waiting : Node → ℕ → Setting → Bearer → Bool
-is_waiting x g s b = is_node x (anchor_in s) && nat_lt b.owned g
+is_waiting x g s b = is_same_node x (anchor_in s) && nat_lt b.owned g
 
 -- the node has the receiving entity of a direction in this generation
 abbrev pub receives : LinkId → ℕ → Setting → Dir → Bearer → Bool

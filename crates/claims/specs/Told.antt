@@ -2,6 +2,7 @@
 use Rattle.std.specs.List.{list_all}
 use Rattle.std.specs.Prelude.{Bool, Option, nat_le, nat_lt, true, ℕ, ◌&&◌, ◌+◌, ◌==◌, ◌||◌}
 use Rattle.dc_base.specs.Count.{window}
+use Rattle.dc_base.specs.Nodes.{is_same_node}
 use Rattle.dc_base.specs.declared.events.Line.{Line}
 use Rattle.dc_base.specs.declared.events.Line.TheVariants as line
 use Rattle.dc_base.specs.declared.events.Note.TheVariants as note
@@ -10,7 +11,7 @@ use Rattle.dc_base.specs.declared.nodes.Dir.{Dir}
 use Rattle.dc_base.specs.declared.nodes.Dir.TheVariants.{Dl, Ul}
 use Rattle.dc_base.specs.declared.nodes.Node.{Node}
 use Rattle.dc_base.specs.declared.nodes.Node.TheVariants.{M}
-use Rattle.claims.specs.Sameness.{is_node, is_none_or, is_some_and}
+use Rattle.claims.specs.Sameness.{is_none_or, is_some_and}
 use Rattle.claims.specs.Past.{Bearer, Past}
 use Rattle.claims.specs.Reading.{bearer_of, deliv, holds, lane, latest, low, next_count}
 
@@ -30,7 +31,7 @@ is_told p _ = true
 
 -- a secondary as holder has told its Low
 abbrev pub has_told : Bearer → Bool
-has_told b = is_none_or (λ h. is_node h.0 M || (b.tells == low Dl b)) b.holder
+has_told b = is_none_or (λ h. is_same_node h.0 M || (b.tells == low Dl b)) b.holder
 
 -- nothing is left to tell of a bearer
 abbrev pub bearer_is_told : Bearer → Bool
