@@ -1516,7 +1516,7 @@ resend_on_a_tunnel_link_is_right : breaks (a_header Nea0 0 (replicate 32 0)) (be
 unfolding sn window modulus distance count_for data_pdu decoded read_data read_report keystream counter_block stream_blocks report_pdu
 resend_on_a_tunnel_link_is_right = refl
 
-right_accept_lost_forwarding_packet_and_an_open_command_is_wrong : breaks (a_header Nea0 0 (replicate 32 0)) (
+accept_lost_forwarding_packet_and_an_open_command_is_right : breaks (a_header Nea0 0 (replicate 32 0)) (
     an_entry (event.Bearer 1 S12 0 (a_shape false Mcg false) 0 0) answer.Ok (line.Note (note.Own M 1 1) ∷ line.Send (link M T Ctl) (flight.Ctl (rec.Reconf (a_plan 1 None (Set 1 S12 0 (a_shape false Mcg false) 0 0 (a_key 0 Master) None ∷ [])) [])) ∷ [])
     ∷ an_entry (event.Step (link M T Ctl) 0) answer.Ok (line.Note (note.Set 1 1) ∷ line.Send (link T M Ctl) (flight.Ctl (rec.Rcomp 1)) ∷ [])
     ∷ an_entry (event.Step (link T M Ctl) 0) answer.Ok (line.Note note.Done ∷ [])
@@ -1539,9 +1539,9 @@ right_accept_lost_forwarding_packet_and_an_open_command_is_wrong : breaks (a_hea
     ∷ an_entry (event.Step (link M A Tun) 0) answer.Ok []
     ∷ []) ≡ []
 unfolding sn window modulus distance count_for data_pdu decoded read_data read_report keystream counter_block stream_blocks report_pdu
-right_accept_lost_forwarding_packet_and_an_open_command_is_wrong = refl
+accept_lost_forwarding_packet_and_an_open_command_is_right = refl
 
-right_accept_payload_that_stays_since_the_only_leg_failed_is_wrong : breaks (a_header Nea0 0 (replicate 32 0)) (
+accept_payload_that_stays_since_the_only_leg_failed_is_right : breaks (a_header Nea0 0 (replicate 32 0)) (
     an_entry (event.Add A) answer.Ok (line.Send (link M A Ctl) (flight.Ctl (rec.Addreq (a_plan 1 (Some A) []) [])) ∷ [])
     ∷ an_entry (event.Step (link M A Ctl) 0) answer.Ok (line.Note (note.Join A 1) ∷ line.Send (link A M Ctl) (flight.Ctl (rec.Addack 1)) ∷ [])
     ∷ an_entry (event.Step (link A M Ctl) 0) answer.Ok (line.Send (link M T Ctl) (flight.Ctl (rec.Reconf (a_plan 1 (Some A) []) [])) ∷ [])
@@ -1564,9 +1564,9 @@ right_accept_payload_that_stays_since_the_only_leg_failed_is_wrong : breaks (a_h
     ∷ an_entry (event.Step (link T M Ctl) 0) answer.Ok (line.Note note.Done ∷ [])
     ∷ []) ≡ []
 unfolding sn window modulus distance count_for data_pdu decoded read_data read_report keystream counter_block stream_blocks report_pdu
-right_accept_payload_that_stays_since_the_only_leg_failed_is_wrong = refl
+accept_payload_that_stays_since_the_only_leg_failed_is_right = refl
 
-right_accept_pdu_of_a_generation_before_a_begin_in_the_same_event_is_wrong : breaks (a_header Nea0 0 (replicate 32 0)) (
+accept_pdu_of_a_generation_before_a_begin_in_the_same_event_is_right : breaks (a_header Nea0 0 (replicate 32 0)) (
     an_entry (event.Add A) answer.Ok (line.Send (link M A Ctl) (flight.Ctl (rec.Addreq (a_plan 1 (Some A) []) [])) ∷ [])
     ∷ an_entry (event.Step (link M A Ctl) 0) answer.Ok (line.Note (note.Join A 1) ∷ line.Send (link A M Ctl) (flight.Ctl (rec.Addack 1)) ∷ [])
     ∷ an_entry (event.Step (link A M Ctl) 0) answer.Ok (line.Send (link M T Ctl) (flight.Ctl (rec.Reconf (a_plan 1 (Some A) []) [])) ∷ [])
@@ -1597,9 +1597,9 @@ right_accept_pdu_of_a_generation_before_a_begin_in_the_same_event_is_wrong : bre
     ∷ an_entry (event.Step (link A M Tun) 0) answer.Ok []
     ∷ []) ≡ []
 unfolding sn window modulus distance count_for data_pdu decoded read_data read_report keystream counter_block stream_blocks report_pdu
-right_accept_pdu_of_a_generation_before_a_begin_in_the_same_event_is_wrong = refl
+accept_pdu_of_a_generation_before_a_begin_in_the_same_event_is_right = refl
 
-right_accept_second_generation_while_a_rejected_one_failed_nothing_is_wrong : breaks (a_header Nea0 0 (replicate 32 0)) (
+accept_second_generation_while_a_rejected_one_failed_nothing_is_right : breaks (a_header Nea0 0 (replicate 32 0)) (
     an_entry (event.Add A) answer.Ok (line.Send (link M A Ctl) (flight.Ctl (rec.Addreq (a_plan 1 (Some A) []) [])) ∷ [])
     ∷ an_entry (event.Step (link M A Ctl) 0) answer.Ok (line.Note (note.Join A 1) ∷ line.Send (link A M Ctl) (flight.Ctl (rec.Addack 1)) ∷ [])
     ∷ an_entry (event.Step (link A M Ctl) 0) answer.Ok (line.Send (link M T Ctl) (flight.Ctl (rec.Reconf (a_plan 1 (Some A) []) [])) ∷ [])
@@ -1618,9 +1618,9 @@ right_accept_second_generation_while_a_rejected_one_failed_nothing_is_wrong : br
     ∷ an_entry (event.Step (link T M Ctl) 0) answer.Ok (line.Send (link M A Ctl) (flight.Ctl (rec.Recfg 3)) ∷ line.Note note.Done ∷ [])
     ∷ []) ≡ []
 unfolding sn window modulus distance count_for data_pdu decoded read_data read_report keystream counter_block stream_blocks report_pdu
-right_accept_second_generation_while_a_rejected_one_failed_nothing_is_wrong = refl
+accept_second_generation_while_a_rejected_one_failed_nothing_is_right = refl
 
-right_accept_uplink_up_of_a_pdu_that_an_earlier_anchor_took_is_wrong : breaks (a_header Nea0 0 (replicate 32 0)) (
+accept_uplink_up_of_a_pdu_that_an_earlier_anchor_took_is_right : breaks (a_header Nea0 0 (replicate 32 0)) (
     an_entry (event.Bearer 1 S12 0 (a_shape false Mcg false) 0 0) answer.Ok (line.Note (note.Own M 1 1) ∷ line.Send (link M T Ctl) (flight.Ctl (rec.Reconf (a_plan 1 None (Set 1 S12 0 (a_shape false Mcg false) 0 0 (a_key 0 Master) None ∷ [])) [])) ∷ [])
     ∷ an_entry (event.Step (link M T Ctl) 0) answer.Ok (line.Note (note.Set 1 1) ∷ line.Send (link T M Ctl) (flight.Ctl (rec.Rcomp 1)) ∷ [])
     ∷ an_entry (event.Step (link T M Ctl) 0) answer.Ok (line.Note note.Done ∷ [])
@@ -1646,9 +1646,9 @@ right_accept_uplink_up_of_a_pdu_that_an_earlier_anchor_took_is_wrong : breaks (a
     ∷ an_entry (event.Step (link T A Air) 0) answer.Ok (line.Note (note.Up A 1 Ul 0 (204 ∷ [])) ∷ line.Note (note.Up A 1 Ul 1 (221 ∷ [])) ∷ line.Send (link A T Air) (flight.Ack 1 3 0) ∷ [])
     ∷ []) ≡ []
 unfolding sn window modulus distance count_for data_pdu decoded read_data read_report keystream counter_block stream_blocks report_pdu
-right_accept_uplink_up_of_a_pdu_that_an_earlier_anchor_took_is_wrong = refl
+accept_uplink_up_of_a_pdu_that_an_earlier_anchor_took_is_right = refl
 
-right_accept_want_release_that_waits_for_a_spent_identity_is_wrong : breaks (a_header Nea0 0 (replicate 32 0)) (
+accept_want_release_that_waits_for_a_spent_identity_is_right : breaks (a_header Nea0 0 (replicate 32 0)) (
     an_entry (event.Bearer 1 S12 0 (a_shape false Mcg false) 0 0) answer.Ok (line.Note (note.Own M 1 1) ∷ line.Send (link M T Ctl) (flight.Ctl (rec.Reconf (a_plan 1 None (Set 1 S12 0 (a_shape false Mcg false) 0 0 (a_key 0 Master) None ∷ [])) [])) ∷ [])
     ∷ an_entry (event.Step (link M T Ctl) 0) answer.Ok (line.Note (note.Set 1 1) ∷ line.Send (link T M Ctl) (flight.Ctl (rec.Rcomp 1)) ∷ [])
     ∷ an_entry (event.Step (link T M Ctl) 0) answer.Ok (line.Note note.Done ∷ [])
@@ -1671,9 +1671,9 @@ right_accept_want_release_that_waits_for_a_spent_identity_is_wrong : breaks (a_h
     ∷ an_entry (event.Step (link A M Ctl) 0) answer.Ok []
     ∷ []) ≡ []
 unfolding sn window modulus distance count_for data_pdu decoded read_data read_report keystream counter_block stream_blocks report_pdu
-right_accept_want_release_that_waits_for_a_spent_identity_is_wrong = refl
+accept_want_release_that_waits_for_a_spent_identity_is_right = refl
 
-right_accepted_change_without_reconf_is_wrong : breaks (a_header Nea0 0 (replicate 32 0)) (
+accepted_change_without_reconf_is_right : breaks (a_header Nea0 0 (replicate 32 0)) (
     an_entry (event.Add A) answer.Ok (line.Send (link M A Ctl) (flight.Ctl (rec.Addreq (a_plan 1 (Some A) []) [])) ∷ [])
     ∷ an_entry (event.Step (link M A Ctl) 0) answer.Ok (line.Note (note.Join A 1) ∷ line.Send (link A M Ctl) (flight.Ctl (rec.Addack 1)) ∷ [])
     ∷ an_entry (event.Step (link A M Ctl) 0) answer.Ok (line.Send (link M T Ctl) (flight.Ctl (rec.Reconf (a_plan 1 (Some A) []) [])) ∷ [])
@@ -1685,7 +1685,7 @@ right_accepted_change_without_reconf_is_wrong : breaks (a_header Nea0 0 (replica
     ∷ an_entry (event.Step (link A M Ctl) 0) answer.Ok (line.Send (link M T Ctl) (flight.Ctl (rec.Reconf (a_plan 2 (Some A) (Set 1 S12 0 (a_shape true Scg false) 0 0 (a_key 0 (SecondKey 0)) None ∷ [])) [])) ∷ [])
     ∷ []) ≡ []
 unfolding sn window modulus distance count_for data_pdu decoded read_data read_report keystream counter_block stream_blocks report_pdu
-right_accepted_change_without_reconf_is_wrong = refl
+accepted_change_without_reconf_is_right = refl
 
 -- what comes before
 abbrev before_root_of_a_rejected_rekey_m_becomes_current : List Entry

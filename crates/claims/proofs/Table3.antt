@@ -1151,7 +1151,7 @@ before_undisturbed_uplink_not_handed_up =
 
 undisturbed_uplink_not_handed_up_is_wrong : breaks (a_header Nea0 0 (replicate 32 0)) (before_undisturbed_uplink_not_handed_up ++ 
     an_entry (event.Step (link A M Tun) 0) answer.Ok []
-    ∷ []) ≡ come ∷ drained ∷ []
+    ∷ []) ≡ drained ∷ all_of_it ∷ []
 unfolding sn window modulus distance count_for data_pdu decoded read_data read_report keystream counter_block stream_blocks report_pdu
 undisturbed_uplink_not_handed_up_is_wrong = refl
 

@@ -26,7 +26,7 @@ use Rattle.dc_base.specs.declared.records.StatusTransfer.{StatusTransfer}
 use Rattle.transcript.specs.Transcript.{Entry}
 use Rattle.claims.specs.Sameness.{implies, is_none_or, is_same_octets, is_some_and, kept_if}
 use Rattle.claims.specs.Packets.{Packet, forwarded, total}
-use Rattle.claims.specs.Views.{forwarding_of, packet_in}
+use Rattle.claims.specs.Views.{carried_plan, forwarding_of, packet_in}
 use Rattle.claims.specs.Past.{Bearer, Past}
 use Rattle.claims.specs.Reading.{Setting, anchor_in, bearer_of, holds_any, is_moved, kept, sends_in, setting, stored}
 use Rattle.claims.specs.LicenceForward.{is_closed, is_closing, is_end_of, is_total, sn_value, transfer_in}
@@ -114,14 +114,9 @@ feed_ends q xs g (Set id n first shape threshold policy key (Some old)) =
     is_same_node old M || not (is_some_and is_moved (setting q id g)) || list_any (is_end_of id g) (sends_in xs)
 feed_ends q xs g _ = true
 
--- the plan that a `reconf` carries out
-abbrev pub carried_plan : LinkId × Flight → Option Plan
-carried_plan (l, flight.Ctl (rec.Reconf q key)) = Some q
-carried_plan _ = None
-
 -- the plans that an event carries out
 abbrev pub carried_plans : List Line → List Plan
-carried_plans xs = filter_map carried_plan (sends_in xs)
+carried_plans xs = filter_map (λ s. carried_plan s.1) (sends_in xs)
 
 -- each ends its feeds
 abbrev pub feeds_end : Past → List Line → Bool

@@ -1,6 +1,6 @@
 -- What is handed up (TS 38.323, 5.2.2.1).
 use Rattle.std.specs.List.{list_all}
-use Rattle.std.specs.Prelude.{Bool, List, Option, is_none, nat_le, nat_lt, not, true, ℕ, ◌&&◌, ◌+◌, ◌==◌, ◌||◌}
+use Rattle.std.specs.Prelude.{Bool, List, Option, filter, is_none, nat_le, nat_lt, not, true, ℕ, ◌&&◌, ◌+◌, ◌==◌, ◌||◌}
 use Rattle.dc_base.specs.Count.{window}
 use Rattle.dc_base.specs.Nodes.{is_same_node}
 use Rattle.dc_base.specs.declared.events.Line.{Line}
@@ -19,6 +19,7 @@ use Rattle.claims.specs.Views.{data_of, delivery_of}
 use Rattle.claims.specs.Past.{Bearer, Past}
 use Rattle.claims.specs.Reading.{bearer_of, deliv, holds, lane, latest, low, submission}
 use Rattle.claims.specs.Taking.{direction_of}
+use Rattle.claims.specs.Noted.{is_early_at}
 
 -- the COUNT was taken
 abbrev pub has_taken : Dir → ℕ → Option Bearer → Bool
@@ -80,3 +81,12 @@ flight_is_inferred p (l, f) =
 -- each COUNT that is inferred from a flight which is not aged is its tag
 abbrev pub is_inferred : Past → Entry → Past → Bool
 is_inferred p e q = is_none_or (flight_is_inferred p) q.given
+
+-- so is each that an anchor infers, when it becomes active, from what it took before
+abbrev pub early_is_inferred : Node → ℕ → Bearer → Bool
+early_is_inferred x g b = list_all (λ w. is_within b.n (deliv Ul b) w.count) (filter (is_early_at x g) b.early)
+
+-- at the line where it does
+abbrev pub is_inferred_early : Past → Line → Bool
+is_inferred_early p (line.Note (note.Own x id g)) = is_none_or (early_is_inferred x g) (bearer_of p id g)
+is_inferred_early p _ = true

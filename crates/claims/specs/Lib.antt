@@ -36,3 +36,4 @@ pub mod ComeControl
 pub mod Order
 pub mod Names
 pub mod Writing
+pub mod Says

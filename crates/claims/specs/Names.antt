@@ -10,7 +10,7 @@ use Rattle.claims.specs.Noted.{after, noted}
 use Rattle.claims.specs.Claim.{Claim, Each, of_entries, of_lines}
 use Rattle.claims.specs.OnLink.{is_consequence, is_on_link}
 use Rattle.claims.specs.Protected.{is_protected}
-use Rattle.claims.specs.HandedUp.{is_carried, is_drained, is_front, is_inferred}
+use Rattle.claims.specs.HandedUp.{is_carried, is_drained, is_front, is_inferred, is_inferred_early}
 use Rattle.claims.specs.OneUse.{is_one_use}
 use Rattle.claims.specs.Told.{all_in_window, all_told, is_told}
 use Rattle.claims.specs.Holder.{is_by_holder}
@@ -58,7 +58,7 @@ claim protected = of_lines is_protected
 claim carried = of_lines is_carried
 claim front = of_lines is_front
 claim drained = of_entries (λ p e q. is_drained q)
-claim inferred = of_entries is_inferred
+claim inferred = record { of_line = is_inferred_early; of_entry = is_inferred }
 claim one_use = of_lines is_one_use
 claim told = record { of_line = is_told; of_entry = λ p e q. all_told q }
 claim windowed = of_entries (λ p e q. all_in_window q)

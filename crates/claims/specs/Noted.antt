@@ -18,7 +18,7 @@ use Rattle.transcript.specs.Transcript.{Entry}
 use Rattle.claims.specs.Packets.{Packet, closing, forwarded, total}
 use Rattle.claims.specs.Views.{Pdu, packet_in, pdu_of}
 use Rattle.claims.specs.Table.{Command, is_change}
-use Rattle.claims.specs.Past.{Bearer, Lane, Past, Waiting, new_past}
+use Rattle.claims.specs.Past.{Bearer, Early, Lane, Past, Waiting, new_past}
 use Rattle.claims.specs.Reading.{change_bearer, lane, low, on_latest, second, with_lane, with_second}
 use Rattle.claims.specs.Drafts.{command_of}
 use Rattle.claims.specs.Carrying.{carry, drawn_by, dropped_at}
@@ -31,11 +31,25 @@ use Rattle.claims.specs.Judged.{judged}
 abbrev pub is_kept_by : Node → ℕ → Waiting → Bool
 is_kept_by x g w = is_same_node x w.node && (w.g == g)
 
--- an anchor becomes active: it takes Low over, and then the reports count that it took while it was waiting
+-- a data PDU that it took so
+abbrev pub is_early_at : Node → ℕ → Early → Bool
+is_early_at x g w = is_same_node x w.node && (w.g == g)
+
+-- the data PDUs that it took so come to its receiving entity
+abbrev pub with_early : Node → ℕ → Bearer → Bearer
+with_early x g b = record b {
+  up = record b.up { taken = map (λ w. w.count) (filter (is_early_at x g) b.early) ++ b.up.taken };
+  early = filter (λ w. not (is_early_at x g w)) b.early;
+}
+
+-- its anchor is the active one: it takes Low over
+abbrev pub with_holder : Node → ℕ → Bearer → Bearer
+with_holder x g b =
+    record b { holder = Some (x, g); owned = g; tells = low Dl b; reports = filter (λ w. not (is_kept_by x g w)) b.reports }
+
+-- an anchor becomes active: then what it took while it was waiting counts
 abbrev pub owned_by : Node → ℕ → Bearer → Bearer
-owned_by x g b =
-    let cs = map (λ w. w.names) (filter (is_kept_by x g) b.reports) in
-    confirmed_by Dl cs (record b { holder = Some (x, g); owned = g; tells = low Dl b; reports = filter (λ w. not (is_kept_by x g w)) b.reports })
+owned_by x g b = confirmed_by Dl (map (λ w. w.names) (filter (is_kept_by x g) b.reports)) (with_early x g (with_holder x g b))
 
 -- it is frozen
 abbrev pub given_away : Node → ℕ → Bearer → Bearer

@@ -4,13 +4,12 @@ use Rattle.std.specs.List.{list_all}
 use Rattle.std.specs.Prelude.{Bool, List, Option, Some, false, filter, length, nat_lt, true, ℕ, ◌&&◌, ◌==◌}
 use Rattle.dc_base.specs.declared.events.Line.{Line}
 use Rattle.dc_base.specs.declared.events.Line.TheVariants as line
-use Rattle.dc_base.specs.declared.flights.Flight.TheVariants as flight
 use Rattle.dc_base.specs.declared.nodes.KeyName.{KeyName}
 use Rattle.dc_base.specs.declared.records.Item.{Item}
 use Rattle.dc_base.specs.declared.records.Item.TheVariants.{Set, Unset}
-use Rattle.dc_base.specs.declared.records.Rec.TheVariants as rec
+use Rattle.dc_base.specs.declared.records.Plan.{Plan}
 use Rattle.claims.specs.Sameness.{is_none_or, is_same_key, is_some_and}
-use Rattle.claims.specs.Views.{data_of}
+use Rattle.claims.specs.Views.{carried_plan, data_of}
 use Rattle.claims.specs.Table.{Claimed}
 use Rattle.claims.specs.Past.{Bearer, Past}
 use Rattle.claims.specs.Reading.{Setting, bearer_of, setting}
@@ -34,8 +33,12 @@ is_unused p g (Set id n first shape threshold policy key old) =
     is_some_and (λ b. list_all (λ c. c.bearer == b.g) (uses_of id key p.table.uses)) (bearer_of p id g)
 is_unused p g (Unset id) = true
 
--- a plan that is carried out brings no key of another establishment, and a data PDU has a key of its own
+-- a plan that is carried out brings no key of another establishment
+abbrev pub plan_is_unused : Past → Plan → Bool
+plan_is_unused p q = list_all (is_unused p q.g) q.items
+
+-- so it is of each plan that the terminal is sent, and of the key of each data PDU
 abbrev pub is_one_use : Past → Line → Bool
-is_one_use p (line.Send l (flight.Ctl (rec.Reconf q key))) = list_all (is_unused p q.g) q.items
-is_one_use p (line.Send l f) = is_none_or (λ u. uses_once p (setting p u.id u.g) (bearer_of p u.id u.g)) (data_of f)
+is_one_use p (line.Send l f) =
+    is_none_or (λ u. uses_once p (setting p u.id u.g) (bearer_of p u.id u.g)) (data_of f) && is_none_or (plan_is_unused p) (carried_plan f)
 is_one_use p _ = true

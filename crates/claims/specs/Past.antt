@@ -34,6 +34,12 @@ pub record Waiting : Type 0 where
   pub g : ℕ
   pub names : Confirmation
 
+-- the COUNT of an uplink data PDU that it took so
+pub record Early : Type 0 where
+  pub node : Node
+  pub g : ℕ
+  pub count : ℕ
+
 -- how calm a bearer was: nothing at all was lost, failed or planned for it since its beginning; nothing was lost or
 -- failed and no command came since its last recovery; no flight of its own was lost since its beginning, its last
 -- recovery or the last plan that set it was carried out; or one was
@@ -65,6 +71,7 @@ pub record Bearer : Type 0 where
   pub calm : Calm
   pub lost_forward : Bool  -- a forwarded packet of it was lost, ever
   pub reports : List Waiting
+  pub early : List Early
   pub tells : ℕ  -- the Low that a secondary holder told last, or took over
   pub asked : List (ℕ × ℕ)  -- generation and number of the PDUs that were asked for again
 
@@ -129,6 +136,7 @@ new_bearer g id n first = record {
   calm = untouched;
   lost_forward = false;
   reports = [];
+  early = [];
   tells = first;
   asked = [];
 }

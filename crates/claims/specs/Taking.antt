@@ -25,7 +25,7 @@ use Rattle.claims.specs.Packets.{packet_of}
 use Rattle.claims.specs.Confirming.{Confirmation, acked}
 use Rattle.claims.specs.Views.{Delivery, Pdu, delivery_in, forwarding_in, pdu_in, pdu_of, report_in}
 use Rattle.claims.specs.Past.{Bearer, Lane, Past}
-use Rattle.claims.specs.Reading.{Setting, anchor_in, bearer_of, change_bearer, changed, holds, holds_any, lane, low, on_bearer, second, setting, with_lane, with_second}
+use Rattle.claims.specs.Reading.{Setting, anchor_in, bearer_of, change_bearer, changed, holds, holds_any, low, on_bearer, second, setting, with_second}
 use Rattle.claims.specs.Carrying.{dropped_at}
 
 -- ---- confirming (TS 38.323, 5.3; TS 38.322, 5.2.3)
@@ -81,10 +81,17 @@ abbrev pub with_taken : Option ℕ → Lane → Lane
 with_taken None x = x
 with_taken (Some c) x = record x { taken = c ∷ x.taken }
 
--- the receiving entity's node takes a data PDU
-abbrev pub data_taken : Bool → Dir → Option ℕ → Bearer → Bearer
-data_taken false d c b = b
-data_taken true d c b = with_lane d (with_taken c (lane d b)) b
+-- an anchor that waits keeps a data PDU
+abbrev pub kept_count : Bool → Node → ℕ → Option ℕ → Bearer → Bearer
+kept_count false x g c b = b
+kept_count true x g None b = b
+kept_count true x g (Some c) b = record b { early = record { node = x; g = g; count = c } ∷ b.early }
+
+-- a data PDU comes: to the terminal, to the holder, or to an anchor that waits
+abbrev pub data_taken : LinkId → ℕ → Setting → Dir → Option ℕ → Bearer → Bearer
+data_taken l g s Dl c b = if is_live l g b then record b { down = with_taken c b.down } else b
+data_taken l g s Ul c b =
+    if holds l.to g b.holder then record b { up = with_taken c b.up } else kept_count (is_waiting l.to g s b) l.to g c b
 
 -- an anchor that waits keeps a status report
 abbrev pub kept_report : Bool → Node → ℕ → Confirmation → Bearer → Bearer
@@ -102,7 +109,7 @@ report_taken l g s Ul (Some c) b =
 abbrev pub pdu_taken : LinkId → Pdu → Setting → Bearer → Bearer
 pdu_taken l u s b =
     let d = direction_in l s in
-    if is_data u.octets then data_taken (receives l u.g s d b) d u.tag b else report_taken l u.g s d (report_in (decoded b.n u.octets)) b
+    if is_data u.octets then data_taken l u.g s d u.tag b else report_taken l u.g s d (report_in (decoded b.n u.octets)) b
 
 -- of the generation whose plan has this setting
 abbrev pub on_set_pdu : LinkId → Pdu → Past → Option Setting → Past

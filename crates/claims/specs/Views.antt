@@ -3,7 +3,9 @@ use Rattle.std.specs.Prelude.{Bool, List, None, Ok, Option, Result, Some, false,
 use Rattle.dc_base.specs.Count.{bits}
 use Rattle.dc_base.specs.declared.flights.Flight.{Flight}
 use Rattle.dc_base.specs.declared.flights.Flight.TheVariants as flight
+use Rattle.dc_base.specs.declared.records.Plan.{Plan}
 use Rattle.dc_base.specs.declared.records.Rec.{Rec}
+use Rattle.dc_base.specs.declared.records.Rec.TheVariants as rec
 use Rattle.key_chain.specs.KeyNames.{octets}
 use Rattle.nr_u.specs.declared.frame.Range.{Range}
 use Rattle.pdcp_pdu.specs.Pdu.{Content, report}
@@ -110,3 +112,8 @@ owner_of (flight.Ctl r) = None
 abbrev pub record_in : Flight → Option Rec
 record_in (flight.Ctl r) = Some r
 record_in _ = None
+
+-- the plan that a flight carries out: the one that the terminal is sent
+abbrev pub carried_plan : Flight → Option Plan
+carried_plan (flight.Ctl (rec.Reconf q key)) = Some q
+carried_plan _ = None
