@@ -17,8 +17,8 @@ use Rattle.dc_base.specs.declared.nodes.Node.{Node}
 use Rattle.dc_base.specs.declared.nodes.Node.TheVariants.{A, B, M, T}
 use Rattle.dc_base.specs.declared.numbers.SnLen.{SnLen}
 use Rattle.key_chain.specs.KeyNames.{octets}
+use Rattle.pdcp_pdu.specs.DataPdu.{is_data}
 use Rattle.pdcp_pdu.specs.Pdu.{decoded}
-use Rattle.transcript.specs.Text.{is_data}
 use Rattle.transcript.specs.Transcript.{Entry}
 use Rattle.claims.specs.Sameness.{implies, is_none_or, is_number, is_some_and}
 use Rattle.claims.specs.Shapes.{has_both}
@@ -101,9 +101,9 @@ copy_comes q (l, u) =
     not (is_data u.octets) || not (is_origin l (direction_of q l u) (setting q u.id u.g))
     || is_some_and (λ s. is_some_and (is_on_both q l u s) (bearer_of q u.id u.g)) (setting q u.id u.g)
 
--- all of an event that is no `again`
+-- all of an event's PDUs
 abbrev pub copies_come : Past → Bool
-copies_come q = is_some q.copied || list_all (copy_comes q) (sent_pdus q)
+copies_come q = list_all (copy_comes q) (sent_pdus q)
 
 -- ---- acks, statuses and reports
 

@@ -20,7 +20,7 @@ use Rattle.dc_base.specs.declared.nodes.Node.{Node}
 use Rattle.dc_base.specs.declared.nodes.Node.TheVariants.{A, B, M, T}
 use Rattle.dc_base.specs.declared.records.Rec.{Rec}
 use Rattle.dc_base.specs.declared.records.Rec.TheVariants as rec
-use Rattle.transcript.specs.Text.{is_data}
+use Rattle.pdcp_pdu.specs.DataPdu.{is_data}
 use Rattle.claims.specs.Links.{is_class}
 use Rattle.claims.specs.Sameness.{cell_number, implies, is_among, is_number, is_ok, is_same_number, is_some_and}
 use Rattle.claims.specs.Shapes.{has_both, has_leg, primary}

@@ -129,14 +129,18 @@ with_forward l (Some (total id g d number)) fs = (l, total id g d number) ∷ fs
 with_forward l (Some (closing id g d)) fs = (l, closing id g d) ∷ fs
 with_forward l _ fs = fs
 
--- a flight is put at the end of its link
+-- the PDU and the packet that a flight is, among those sent; the copy of an `again` is no send
+abbrev pub as_send : Option (LinkId × Flight) → LinkId → Flight → Past → Past
+as_send None l f p = record p { pdus = with_pdu l (pdu_of f) p.pdus; forwards = with_forward l (packet_in f) p.forwards }
+as_send (Some s) l f p = p
+
+-- a flight stands at the end of its link
+abbrev pub at_the_end : LinkId → Flight → Past → Past
+at_the_end l f p = record p { standing = p.standing ++ (l, f) ∷ []; sent = (l, f) ∷ p.sent }
+
+-- it is put there
 abbrev pub put : LinkId → Flight → Past → Past
-put l f p = record p {
-  standing = p.standing ++ (l, f) ∷ [];
-  sent = (l, f) ∷ p.sent;
-  pdus = with_pdu l (pdu_of f) p.pdus;
-  forwards = with_forward l (packet_in f) p.forwards;
-}
+put l f p = at_the_end l f (as_send p.copied l f p)
 
 -- a line does what it says; an event or an answer is no consequence
 abbrev pub noted_line : Line → Past → Past
@@ -144,9 +148,13 @@ noted_line (line.Note n) p = noted_note n p
 noted_line (line.Send l f) p = noted_flight l f (put l f p)
 noted_line _ p = p
 
+-- the event has one more line
+abbrev pub with_said : Line → Past → Past
+with_said x p = record p { said = p.said ++ x ∷ [] }
+
 -- the past with a line
 abbrev pub noted : Past → Line → Past
-noted p x = let q = noted_line x p in record q { said = q.said ++ x ∷ [] }
+noted p x = with_said x (noted_line x p)
 
 -- ---- the fold
 

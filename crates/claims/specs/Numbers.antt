@@ -9,8 +9,8 @@ use Rattle.dc_base.specs.declared.flights.Flight.{Flight}
 use Rattle.dc_base.specs.declared.nodes.Dir.{Dir}
 use Rattle.dc_base.specs.declared.nodes.LinkId.{LinkId}
 use Rattle.key_chain.specs.KeyNames.{octets}
+use Rattle.pdcp_pdu.specs.DataPdu.{is_data}
 use Rattle.pdcp_pdu.specs.StatusReport.{report_pdu}
-use Rattle.transcript.specs.Text.{is_data}
 use Rattle.claims.specs.Sameness.{is_none_or, is_same_octets, is_some_and}
 use Rattle.claims.specs.Packets.{Packet, forwarded, total}
 use Rattle.claims.specs.Views.{Pdu, packet_in, pdu_of}

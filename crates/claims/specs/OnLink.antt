@@ -11,7 +11,7 @@ use Rattle.dc_base.specs.declared.nodes.LinkId.{LinkId}
 use Rattle.dc_base.specs.declared.nodes.Node.TheVariants.{M, T}
 use Rattle.dc_base.specs.declared.records.Rec.{Rec}
 use Rattle.dc_base.specs.declared.records.Rec.TheVariants as rec
-use Rattle.transcript.specs.Text.{is_data}
+use Rattle.pdcp_pdu.specs.DataPdu.{is_data}
 use Rattle.claims.specs.Links.{is_class, is_from_to}
 use Rattle.claims.specs.Sameness.{is_none_or}
 use Rattle.claims.specs.Packets.{packet_of}

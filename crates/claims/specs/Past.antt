@@ -92,7 +92,7 @@ pub record Past : Type 0 where
   pub plans : List Plan  -- drawn, the latest first
   pub standing : List (LinkId × Flight)  -- what stands on the links, in the order of sending
   pub sent : List (LinkId × Flight)  -- all that was sent, the latest first
-  pub pdus : List (LinkId × Pdu)  -- the PDUs among that
+  pub pdus : List (LinkId × Pdu)  -- the PDUs among that, without copies
   pub forwards : List (LinkId × Packet)  -- and the forwarded SDUs, totals and End Markers
   pub bearers : List Bearer  -- the latest first
   pub a : Second

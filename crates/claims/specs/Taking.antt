@@ -18,8 +18,8 @@ use Rattle.dc_base.specs.declared.records.Item.TheVariants.{Set, Unset}
 use Rattle.dc_base.specs.declared.records.Rec.{Rec}
 use Rattle.dc_base.specs.declared.records.Rec.TheVariants as rec
 use Rattle.nr_u.specs.declared.frame.Range.{Range}
+use Rattle.pdcp_pdu.specs.DataPdu.{is_data}
 use Rattle.pdcp_pdu.specs.Pdu.{decoded}
-use Rattle.transcript.specs.Text.{is_data}
 use Rattle.claims.specs.Sameness.{is_number, is_some_and, kept_if}
 use Rattle.claims.specs.Packets.{packet_of}
 use Rattle.claims.specs.Confirming.{Confirmation, acked}

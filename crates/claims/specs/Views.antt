@@ -8,9 +8,9 @@ use Rattle.dc_base.specs.declared.records.Rec.{Rec}
 use Rattle.dc_base.specs.declared.records.Rec.TheVariants as rec
 use Rattle.key_chain.specs.KeyNames.{octets}
 use Rattle.nr_u.specs.declared.frame.Range.{Range}
+use Rattle.pdcp_pdu.specs.DataPdu.{is_data}
 use Rattle.pdcp_pdu.specs.Pdu.{Content, report}
 use Rattle.pdcp_pdu.specs.declared.pdu.PduErr.{PduErr}
-use Rattle.transcript.specs.Text.{is_data}
 use Rattle.claims.specs.Packets.{Packet, closing, downlink, forwarded, packet_of, status, total, uplink}
 use Rattle.claims.specs.Confirming.{Confirmation, reported}
 
