@@ -4,8 +4,18 @@
 pub mod Choices
 pub mod Lines
 -- bearers at a node
+pub mod Stub
 pub mod Setup
+pub mod Entity
+pub mod Sending
+pub mod Packets
 pub mod Forwarded
 pub mod Anchor
+pub mod AnchorSending
+pub mod Adopting
+pub mod AnchorReceiving
+pub mod Freezing
+pub mod Feed
 pub mod Host
+pub mod HostRules
 pub mod TerminalHalf

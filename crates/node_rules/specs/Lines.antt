@@ -3,7 +3,6 @@
 use Rattle.std.specs.Prelude.{ℕ, ◌==◌, ◌++◌, map, Bool, true, false, List, [], ◌∷◌, filter, if◌then◌else◌}
 use Rattle.std.specs.List.{flat_map, list_any}
 use Rattle.dc_base.specs.declared.nodes.LinkId.{LinkId}
-use Rattle.dc_base.specs.declared.flights.Flight.{Flight}
 use Rattle.dc_base.specs.declared.flights.Flight.TheVariants.{Ctl}
 use Rattle.dc_base.specs.declared.records.Rec.TheVariants.{Reconf, Relcnf}
 use Rattle.dc_base.specs.declared.events.Note.{Note}

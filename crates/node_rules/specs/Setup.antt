@@ -1,22 +1,18 @@
 -- A bearer as a node has it in one generation: what the plan of that generation set, and the legs, which begin anew with
 -- each generation (TS 37.340, 10; TS 38.331, 5.3.5.6.5).
-use Rattle.std.specs.Prelude.{ℕ, ◌==◌, ◌&&◌, Bool, true, false, List, [], Option, Some, None}
-use Rattle.std.specs.Option.{option_map}
+use Rattle.std.specs.Prelude.{ℕ, ◌==◌, ◌&&◌, if◌then◌else◌, Bool, true, false, List, [], Option, Some, None}
 use Rattle.dc_base.specs.declared.numbers.SnLen.{SnLen}
 use Rattle.dc_base.specs.declared.nodes.Alg.{Alg}
 use Rattle.dc_base.specs.declared.nodes.Cell.{Cell}
 use Rattle.dc_base.specs.declared.nodes.Cell.TheVariants.{Mcg, Scg}
-use Rattle.dc_base.specs.declared.nodes.Class.TheVariants.{Air, Tun}
-use Rattle.dc_base.specs.declared.nodes.LinkId.{LinkId}
 use Rattle.dc_base.specs.declared.nodes.Node.{Node}
-use Rattle.dc_base.specs.declared.nodes.Node.TheVariants.{T, M, A, B}
+use Rattle.dc_base.specs.declared.nodes.Node.TheVariants.{M}
 use Rattle.dc_base.specs.declared.nodes.Shape.{Shape}
 use Rattle.dc_base.specs.declared.records.Item.{Item}
 use Rattle.dc_base.specs.declared.records.Item.TheVariants.{Set, Unset}
 use Rattle.dc_base.specs.declared.records.Plan.{Plan}
-use Rattle.split_leg.specs.Legs.{LegsState, LegState, leg_at}
+use Rattle.split_leg.specs.Legs.{LegsState, LegState, leg_at, with_leg}
 use Rattle.split_leg.specs.Routes.{has_leg}
-use Rattle.transcript.specs.Content.{link}
 
 pub record Setup : Type 0 where
   pub node : Node  -- where it is set up
@@ -52,12 +48,11 @@ setup_of node plan alg key (Set id n first shape threshold policy name old) = So
 })
 setup_of node plan alg key (Unset id) = None
 
--- ---- where its legs are
+-- both are of this bearer and generation
+abbrev pub is_of : Setup → ℕ → ℕ → Bool
+is_of s id g = (s.id == id) && (s.g == g)
 
--- the node over whose cells a leg goes: the master, or the secondary of the plan
-abbrev pub node_of : Option Node → Cell → Option Node
-node_of sec Mcg = Some M
-node_of sec Scg = sec
+-- ---- where its legs are
 
 -- the cell group of a node
 abbrev pub cell_of : Node → Cell
@@ -69,12 +64,31 @@ abbrev pub other_cell : Cell → Cell
 other_cell Mcg = Scg
 other_cell Scg = Mcg
 
--- both are of one cell group
+-- both are one cell group
 abbrev pub is_same_cell : Cell → Cell → Bool
 is_same_cell Mcg Mcg = true
 is_same_cell Mcg Scg = false
 is_same_cell Scg Mcg = false
 is_same_cell Scg Scg = true
+
+-- the node of a cell group: the master, or the secondary of the plan
+abbrev pub node_of : Option Node → Cell → Option Node
+node_of sec Mcg = Some M
+node_of sec Scg = sec
+
+-- the cell group in which the anchor is
+abbrev pub anchor_cell : Shape → Cell
+anchor_cell shape = if shape.at_second then Scg else Mcg
+
+-- the node of the anchor, if the plan has that node
+abbrev pub anchor_of : Setup → Option Node
+anchor_of s = node_of s.sec (anchor_cell s.legs.shape)
+
+-- the host: the node of the leg that goes through a tunnel, if there is such a leg
+abbrev pub host_of : Setup → Option Node
+host_of s =
+    let cell = other_cell (anchor_cell s.legs.shape) in
+    if has_leg s.legs.shape.legs cell then node_of s.sec cell else None
 
 -- the bearer has a leg over this cell group
 abbrev pub has_cell : Setup → Cell → Bool
@@ -84,14 +98,6 @@ has_cell s cell = has_leg s.legs.shape.legs cell
 abbrev pub has_failed : Setup → Cell → Bool
 has_failed s cell = (leg_at s.legs cell).failed
 
--- the other node than the anchor's that has a leg: the host
-abbrev pub host_of : Setup → Option Node
-host_of s = node_of s.sec (other_cell (cell_of s.node))
-
--- the bearer has a leg through a tunnel to a host
-abbrev pub is_split : Setup → Bool
-is_split s = has_cell s (other_cell (cell_of s.node))
-
--- both are of this bearer and generation
-abbrev pub is_of : Setup → ℕ → ℕ → Bool
-is_of s id g = (s.id == id) && (s.g == g)
+-- the SCG leg failed (TS 37.340, 7.7)
+abbrev pub with_failed_scg : Setup → Setup
+with_failed_scg s = record s { legs = with_leg s.legs Scg (record (leg_at s.legs Scg) { failed = true }) }
