@@ -10,7 +10,7 @@ use Rattle.dc_base.specs.declared.records.StatusTransfer.{StatusTransfer}
 use Rattle.forward.specs.Load.{Sdu, Load}
 use Rattle.pdcp_rx.specs.Entries.{Entry, is_stored, with_sdu}
 use Rattle.node_rules.specs.Anchor.{Active, AnchorOut, AnchorState, Waiting, active_anchor, new_tunnel, silent, waiting_anchor}
-use Rattle.node_rules.specs.AnchorSending.{unlock_at}
+use Rattle.node_rules.specs.AnchorSending.{open_if}
 use Rattle.node_rules.specs.Choices.{Choices, Send}
 use Rattle.node_rules.specs.Entity.{Entity, risen_low, take_pdus}
 use Rattle.node_rules.specs.Forwarded.{after, whole}
@@ -61,7 +61,7 @@ taken_over w st down up = record {
 
 -- the anchor is active with this entity, and opens if it was told that the reconfiguration is complete
 abbrev pub active_with : Choices → Waiting → Entity → Active × List Send
-active_with c w e = unlock_at (not w.is_told) c (record { entity = e; is_open = false; tunnel = new_tunnel w.setup.n })
+active_with c w e = open_if w.is_told c (record { entity = e; is_open = false; tunnel = new_tunnel w.setup.n })
 
 -- it adopts: it takes the entity over, then the uplink PDUs that it kept, and opens
 abbrev pub adopts : Choices → Waiting → Entity → AnchorState × AnchorOut

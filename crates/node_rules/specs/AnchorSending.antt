@@ -1,6 +1,6 @@
 -- What an anchor sends, and when: SDUs that are submitted, all that is kept at its opening, at a recovery and at the failure
 -- of the SCG, and status reports.
-use Rattle.std.specs.Prelude.{ℕ, ◌++◌, Bool, true, false, List, [], ◌∷◌, fold, Option, Some, None, Result, Ok, Err}
+use Rattle.std.specs.Prelude.{ℕ, not, ◌++◌, Bool, true, false, List, [], ◌∷◌, fold, Option, Some, None, Result, Ok, Err}
 use Rattle.std.specs.List.{flat_map}
 use Rattle.dc_base.specs.declared.flights.Flight.TheVariants as flight
 use Rattle.dc_base.specs.declared.nodes.Class.TheVariants.{Air, Tun}
@@ -100,15 +100,15 @@ opens c a =
     let first = with_numbers c again.0 (numbered again.0.entity.tx) in
     (first.0, again.1 ++ first.1)
 
--- by whether it is open already
-abbrev pub unlock_at : Bool → Choices → Active → Active × List Send
-unlock_at true c a = (a, [])
-unlock_at false c a = opens c a
+-- by whether it is to open
+abbrev pub open_if : Bool → Choices → Active → Active × List Send
+open_if true c a = opens c a
+open_if false c a = (a, [])
 
 -- the reconfiguration is complete (TS 37.340, 10.2 to 10.5: SN RECONFIGURATION COMPLETE): a waiting anchor notes it
 abbrev pub unlock : Choices → AnchorState → AnchorState × AnchorOut
 unlock c (waiting_anchor w) = (waiting_anchor (record w { is_told = true }), silent)
-unlock c (active_anchor a) = sent_by (unlock_at a.is_open c a)
+unlock c (active_anchor a) = sent_by (open_if (not a.is_open) c a)
 
 -- ---- recovery, the failure of the SCG, and reports
 

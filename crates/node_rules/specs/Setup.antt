@@ -13,6 +13,7 @@ use Rattle.dc_base.specs.declared.records.Item.TheVariants.{Set, Unset}
 use Rattle.dc_base.specs.declared.records.Plan.{Plan}
 use Rattle.split_leg.specs.Legs.{LegsState, LegState, leg_at, with_leg}
 use Rattle.split_leg.specs.Routes.{has_leg}
+use Rattle.transcript.specs.Content.{node_number}
 
 pub record Setup : Type 0 where
   pub node : Node  -- where it is set up
@@ -76,13 +77,18 @@ abbrev pub node_of : Option Node → Cell → Option Node
 node_of sec Mcg = Some M
 node_of sec Scg = sec
 
+-- the node is the one that may be there
+abbrev pub is_there : Node → Option Node → Bool
+is_there x None = false
+is_there x (Some y) = node_number x == node_number y
+
+-- the bearer has a leg over the cells of this node
+abbrev pub has_leg_at : Setup → Node → Bool
+has_leg_at s x = has_leg s.legs.shape.legs (cell_of x) && is_there x (node_of s.sec (cell_of x))
+
 -- the cell group in which the anchor is
 abbrev pub anchor_cell : Shape → Cell
 anchor_cell shape = if shape.at_second then Scg else Mcg
-
--- the node of the anchor, if the plan has that node
-abbrev pub anchor_of : Setup → Option Node
-anchor_of s = node_of s.sec (anchor_cell s.legs.shape)
 
 -- the host: the node of the leg that goes through a tunnel, if there is such a leg
 abbrev pub host_of : Setup → Option Node

@@ -22,7 +22,7 @@ use Rattle.transcript.specs.Content.{link}
 use Rattle.node_rules.specs.Choices.{Choices, Send}
 use Rattle.node_rules.specs.Entity.{Entity, new_entity, renewed, risen_low, take_pdu}
 use Rattle.node_rules.specs.Sending.{OnLeg, send_counts, send_kept, send_report}
-use Rattle.node_rules.specs.Setup.{Setup, has_cell, has_failed, is_of, node_of, with_failed_scg}
+use Rattle.node_rules.specs.Setup.{Setup, cell_of, has_cell, has_failed, has_leg_at, is_of, node_of, with_failed_scg}
 
 abbrev pub TerminalHalf : Type 0
 TerminalHalf = Entity
@@ -110,18 +110,18 @@ abbrev pub acked : TerminalHalf → Cell → ℕ → TerminalHalf
 acked h cell num =
     record h { setup = record h.setup { legs = with_leg h.setup.legs cell (with_ack (leg_at h.setup.legs cell) num) } }
 
--- whether the terminal takes what comes on the leg over this cell group: of the bearer, the generation, a leg that it has
--- and that did not fail
-abbrev pub is_taken : Setup → Cell → ℕ → ℕ → Bool
-is_taken s cell id g = is_of s id g && has_cell s cell && not (has_failed s cell)
+-- whether the terminal takes what comes from a node: of the bearer, the generation, a leg that it has there and that did
+-- not fail
+abbrev pub is_taken : Setup → Node → ℕ → ℕ → Bool
+is_taken s from id g = is_of s id g && has_leg_at s from && not (has_failed s (cell_of from))
 
--- a flight comes from a node on the leg over this cell group; only PDUs and their confirms do
-abbrev pub terminal_air_in : TerminalHalf → Node → Cell → Flight → TerminalHalf × HalfOut
-terminal_air_in h from cell (flight.Air id g num tag pdu) =
-    if is_taken h.setup cell id g then pdu_came h from num (decoded h.setup.n pdu) else (h, silent)
-terminal_air_in h from cell (flight.Ack id g num) = if is_taken h.setup cell id g then (acked h cell num, silent) else (h, silent)
-terminal_air_in h from cell (flight.Tun tag packet) = (h, silent)
-terminal_air_in h from cell (flight.Sdu id g sdu) = (h, silent)
-terminal_air_in h from cell (flight.End id g) = (h, silent)
-terminal_air_in h from cell (flight.Told id g count) = (h, silent)
-terminal_air_in h from cell (flight.Ctl rec) = (h, silent)
+-- a flight comes over the air from a node; only PDUs and their confirms do
+abbrev pub terminal_air_in : TerminalHalf → Node → Flight → TerminalHalf × HalfOut
+terminal_air_in h from (flight.Air id g num tag pdu) =
+    if is_taken h.setup from id g then pdu_came h from num (decoded h.setup.n pdu) else (h, silent)
+terminal_air_in h from (flight.Ack id g num) = if is_taken h.setup from id g then (acked h (cell_of from) num, silent) else (h, silent)
+terminal_air_in h from (flight.Tun tag packet) = (h, silent)
+terminal_air_in h from (flight.Sdu id g sdu) = (h, silent)
+terminal_air_in h from (flight.End id g) = (h, silent)
+terminal_air_in h from (flight.Told id g count) = (h, silent)
+terminal_air_in h from (flight.Ctl rec) = (h, silent)
