@@ -16,13 +16,13 @@ use Rattle.node_rules.specs.Acts.{Act, go, prepare, say, send}
 use Rattle.node_rules.specs.CommandTable.{Change, carried, master_key_of}
 use Rattle.node_rules.specs.Drafts.{Draft, First, addition, modification, release}
 use Rattle.node_rules.specs.MasterState.{MasterActs, MasterProc, asked, gone}
-use Rattle.node_rules.specs.Places.{anchor_at, is_node}
+use Rattle.node_rules.specs.Places.{anchor_at, is_same_node}
 
 -- a bearer of the plan that moves to another node, with its new anchor
 abbrev pub moving_of : Option Node → Item → List (ℕ × Node)
 moving_of sec (item.Set id n first shape threshold policy key None) = []
 moving_of sec (item.Set id n first shape threshold policy key (Some old)) =
-    let new = anchor_at sec shape in if is_node old new then [] else (id, new) ∷ []
+    let new = anchor_at sec shape in if is_same_node old new then [] else (id, new) ∷ []
 moving_of sec (item.Unset id) = []
 
 -- the bearers that a plan moves
@@ -31,7 +31,7 @@ moving_by p = flat_map (moving_of p.sec) p.items
 
 -- whether one of them moves to the master
 abbrev pub moves_here : Plan → Bool
-moves_here p = list_any (λ (x : ℕ × Node). is_node M x.1) (moving_by p)
+moves_here p = list_any (λ (x : ℕ × Node). is_same_node M x.1) (moving_by p)
 
 -- the waiting anchors that the master makes where a command begins
 abbrev pub preparing : Plan → List Act

@@ -22,7 +22,7 @@ use Rattle.node_rules.specs.Drafts.{First, addition, draft, modification, releas
 use Rattle.node_rules.specs.MasterEnds.{ends, tries, waits_for}
 use Rattle.node_rules.specs.MasterGo.{before_acts, begins_if, goes, way}
 use Rattle.node_rules.specs.MasterState.{Command, Going, MasterActs, MasterProc, asked, gone, recovering, with_waits}
-use Rattle.node_rules.specs.Places.{is_at, is_node, other_second}
+use Rattle.node_rules.specs.Places.{is_at, is_same_node, other_second}
 
 -- a record that has no row in the state
 abbrev pub no_row : RecKind → Result MasterActs ProcFault
@@ -37,9 +37,9 @@ agreed_if k m c first who wanted false = no_row k
 
 -- this node answers the first record of this kind and generation
 abbrev pub is_answer : First → Node → ℕ → First → Node → ℕ → Bool
-is_answer addition from g addition who h = is_node from who && (g == h)
-is_answer modification from g modification who h = is_node from who && (g == h)
-is_answer release from g release who h = is_node from who && (g == h)
+is_answer addition from g addition who h = is_same_node from who && (g == h)
+is_answer modification from g modification who h = is_same_node from who && (g == h)
+is_answer release from g release who h = is_same_node from who && (g == h)
 is_answer _ from g _ who h = false
 
 -- an acknowledge comes
@@ -139,7 +139,7 @@ recovered from id m (Some (recovering i terminal second)) = recovered_at from m 
 
 -- the bearer moves, and this node has not adopted it
 abbrev pub is_moving : ℕ → Node → ℕ × Node → Bool
-is_moving id x y = (y.0 == id) && is_node x y.1
+is_moving id x y = (y.0 == id) && is_same_node x y.1
 
 -- the node adopted the bearer, which moves no longer
 abbrev pub adopted_if : RecKind → MasterProc → ℕ → Node → Plan → Going → Bool → Result MasterActs ProcFault
@@ -157,8 +157,8 @@ moved from g id m (Some (recovering i terminal second)) = no_row kind.Moved
 abbrev pub passed_to : MasterProc → StatusTransfer → Node → Option (ℕ × Node) → Result MasterActs ProcFault
 passed_to m s from None = no_row kind.Snst
 passed_to m s from (Some (id, M)) = Ok (m, pass s ∷ [])
-passed_to m s from (Some (id, A)) = if is_node from A then no_row kind.Snst else Ok (m, send A (rec.Snst s) ∷ [])
-passed_to m s from (Some (id, B)) = if is_node from B then no_row kind.Snst else Ok (m, send B (rec.Snst s) ∷ [])
+passed_to m s from (Some (id, A)) = if is_same_node from A then no_row kind.Snst else Ok (m, send A (rec.Snst s) ∷ [])
+passed_to m s from (Some (id, B)) = if is_same_node from B then no_row kind.Snst else Ok (m, send B (rec.Snst s) ∷ [])
 passed_to m s from (Some (id, T)) = no_row kind.Snst
 
 -- a status transfer comes from the old anchor of a bearer that moves

@@ -8,13 +8,13 @@ use Rattle.dc_base.specs.declared.nodes.Shape.{Shape}
 use Rattle.transcript.specs.Content.{node_number}
 
 -- both are the same node
-abbrev pub is_node : Node → Node → Bool
-is_node x y = node_number x == node_number y
+abbrev pub is_same_node : Node → Node → Bool
+is_same_node x y = node_number x == node_number y
 
 -- the node that may be there is this one
 abbrev pub is_at : Node → Option Node → Bool
 is_at x None = false
-is_at x (Some y) = is_node x y
+is_at x (Some y) = is_same_node x y
 
 -- the secondary node that is not this one; that of the master and of the terminal does not matter
 abbrev pub other_second : Node → Node
@@ -46,11 +46,11 @@ has_scg (Split primary) = true
 
 -- the bearer has a leg at this node
 abbrev pub has_leg_at : Option Node → Shape → Node → Bool
-has_leg_at sec s x = (is_node x M && has_mcg s.legs) || (is_at x sec && has_scg s.legs)
+has_leg_at sec s x = (is_same_node x M && has_mcg s.legs) || (is_at x sec && has_scg s.legs)
 
 -- it has a leg there, and its anchor elsewhere: the node is the leg's host
 abbrev pub is_host_at : Option Node → Shape → Node → Bool
-is_host_at sec s x = has_leg_at sec s x && not (is_node x (anchor_at sec s))
+is_host_at sec s x = has_leg_at sec s x && not (is_same_node x (anchor_at sec s))
 
 -- the anchor and the only leg at the master: an MCG bearer with its PDCP there
 abbrev pub mm : Shape

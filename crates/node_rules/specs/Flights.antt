@@ -1,0 +1,79 @@
+-- Which bearer and generation a flight is of.
+
+-- an identity and a generation
+abbrev pub Named : Type 0
+Named = ℕ × ℕ
+
+-- of a packet
+abbrev pub packet_named : Packet → Option Named
+packet_named (pdu_down id g number repeat pdu) = Some (id, g)
+packet_named (pdu_up id g pdu) = Some (id, g)
+packet_named (delivery id g status) = Some (id, g)
+packet_named (forwarding id g d load) = Some (id, g)
+packet_named nothing = None
+
+-- of a flight of user data; a record is of no one bearer
+abbrev pub flight_named : Flight → Option Named
+flight_named (flight.Air id g num tag pdu) = Some (id, g)
+flight_named (flight.Ack id g num) = Some (id, g)
+flight_named (flight.Tun tag packet) = packet_named (packet_of packet)
+flight_named (flight.Sdu id g payload) = Some (id, g)
+flight_named (flight.End id g) = Some (id, g)
+flight_named (flight.Told id g count) = Some (id, g)
+flight_named (flight.Ctl r) = None
+
+-- ---- ageing: the premise on packet lifetime (this product's own)
+
+-- what a flight would do to the window of its receiver: a data PDU lies in that of the receiving side, a delivery status in
+-- that of the sending side
+pub data Weight : Type 0 where
+  data_pdu_of : (id : ℕ) → (g : ℕ) → (count : ℕ) → Weight
+  delivery_of : (id : ℕ) → (g : ℕ) → (count : ℕ) → Weight
+  weightless : Weight
+
+-- a PDU with its COUNT
+abbrev pub pdu_weight : ℕ → ℕ → ℕ → List ℕ → Weight
+pdu_weight id g count pdu = if is_data pdu then data_pdu_of id g count else weightless
+
+-- a frame with a COUNT
+abbrev pub frame_weight : ℕ → ℕ → ℕ → Frame → Weight
+frame_weight id g count (frame.User number user repeat) = weightless
+frame_weight id g count (frame.Status None lost) = weightless
+frame_weight id g count (frame.Status (Some highest) lost) = delivery_of id g count
+
+-- a packet with a COUNT
+abbrev pub packet_weight : ℕ → Packet → Weight
+packet_weight count (pdu_down id g number repeat pdu) = pdu_weight id g count pdu
+packet_weight count (pdu_up id g pdu) = pdu_weight id g count pdu
+packet_weight count (delivery id g status) = frame_weight id g count status
+packet_weight count (forwarding id g d load) = weightless
+packet_weight count nothing = weightless
+
+-- a flight: without a tag it has none
+abbrev pub weight : Flight → Weight
+weight (flight.Air id g num None pdu) = weightless
+weight (flight.Air id g num (Some count) pdu) = pdu_weight id g count pdu
+weight (flight.Ack id g num) = weightless
+weight (flight.Tun None packet) = weightless
+weight (flight.Tun (Some count) packet) = packet_weight count (packet_of packet)
+weight (flight.Sdu id g payload) = weightless
+weight (flight.End id g) = weightless
+weight (flight.Told id g count) = weightless
+weight (flight.Ctl r) = weightless
+
+-- what a node shows of a bearer in a generation, where it has its active entity: the SN length, RX_DELIV and Low
+pub record Edges : Type 0 where
+  pub n : SnLen
+  pub deliv : ℕ
+  pub low : ℕ
+
+-- it lies more than a window behind the edge that it counts from, which is there where the receiver has the active entity
+abbrev pub is_behind : ℕ → (Edges → ℕ) → Option Edges → Bool
+is_behind count edge None = false
+is_behind count edge (Some e) = nat_lt (count + window e.n) (edge e)
+
+-- the flight is aged for a receiver that shows this
+abbrev pub is_aged_for : (ℕ → ℕ → Option Edges) → Weight → Bool
+is_aged_for edges (data_pdu_of id g count) = is_behind count (λ e. e.deliv) (edges id g)
+is_aged_for edges (delivery_of id g count) = is_behind count (λ e. e.low) (edges id g)
+is_aged_for edges weightless = false

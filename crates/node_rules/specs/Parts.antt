@@ -1,0 +1,48 @@
+-- The part that a node has in an item of a plan: what it is to do with the bearer there (TS 37.340, 10.2 to 10.5).
+
+-- with the anchor: a new bearer begins here; the anchor stays here; it comes from another node; it goes to another node; the
+-- bearer is dropped; or nothing of it is here
+pub data Part : Type 0 where
+  establishes : Part
+  renews : Part
+  awaits : Part
+  hands_over : (to : Node) → Part
+  drops : Part
+  has_no_anchor : Part
+
+-- by whether the anchor is here before and after
+abbrev pub moved_part : Node → Bool → Bool → Part
+moved_part new true true = renews
+moved_part new true false = hands_over new
+moved_part new false true = awaits
+moved_part new false false = has_no_anchor
+
+-- of a bearer that is new (None) or was there before
+abbrev pub set_part : Node → Node → Option Node → Part
+set_part me new None = if is_same_node me new then establishes else has_no_anchor
+set_part me new (Some old) = moved_part new (is_same_node me old) (is_same_node me new)
+
+-- in an item of a plan with this secondary node
+abbrev pub part_at : Node → Option Node → Item → Part
+part_at me sec (item.Set id n first shape threshold policy key old) = set_part me (anchor_at sec shape) old
+part_at me sec (item.Unset id) = drops
+
+-- the bearer has a leg at the node, and its anchor elsewhere, once the item is carried out
+abbrev pub is_hosted_at : Node → Option Node → Item → Bool
+is_hosted_at me sec (item.Set id n first shape threshold policy key old) = is_host_at sec shape me
+is_hosted_at me sec (item.Unset id) = false
+
+-- the host that a node has from then on
+abbrev pub host_in : Option Setup → Bool → Option Host
+host_in s false = None
+host_in s true = option_and_then new_host s
+
+-- the identity that an item is about
+abbrev pub item_id : Item → ℕ
+item_id (item.Set id n first shape threshold policy key old) = id
+item_id (item.Unset id) = id
+
+-- the name of the key that an item sets
+abbrev pub item_key : Item → Option KeyName
+item_key (item.Set id n first shape threshold policy key old) = Some key
+item_key (item.Unset id) = None

@@ -1,0 +1,147 @@
+-- What a secondary node does with one input.
+
+-- ---- its events
+
+-- a command is carried on, or refused
+abbrev pub second_commanded : Choices → SecondNode → Result SecondActs ProcFault → SecondNode × Outcome
+second_commanded c s (Ok r) = accepted (second_does c [] s r)
+second_commanded c s (Err (refused why)) = turned_down s why
+second_commanded c s (Err (unexpected k)) = accepted (s, quiet)
+
+-- a status report is asked for; a node that only waits for a bearer does not have it
+abbrev pub second_report : Choices → SecondNode → ℕ → Option Active → SecondNode × Outcome
+second_report c s id None = turned_down s refusal.NoBearer
+second_report c s id (Some a) = accepted (on_fed s id (report c) (held id s.anchors))
+
+-- an event that a secondary node takes; any other one does nothing there
+abbrev pub second_event : Choices → SecondNode → Event → SecondNode × Outcome
+second_event c s (event.Report node id) = second_report c s id (active_at s id)
+second_event c s (event.Deny node on) = second_commanded c s (second_command s.proc (event.Deny node on))
+second_event c s (event.Ask node what) = second_commanded c s (second_command s.proc (event.Ask node what))
+second_event c s e = accepted (s, quiet)
+
+-- ---- records
+
+-- the plan that a record for a secondary node carries
+abbrev pub plan_in : Rec → Option Plan
+plan_in (rec.Addreq plan key) = Some plan
+plan_in (rec.Modreq plan key) = Some plan
+plan_in (rec.Relreq plan) = Some plan
+plan_in (rec.Chgcnf plan) = Some plan
+plan_in (rec.Relcnf plan) = Some plan
+plan_in _ = None
+
+-- the octets of the K_SN that it carries
+abbrev pub key_in : Rec → List ℕ
+key_in (rec.Addreq plan key) = key
+key_in (rec.Modreq plan key) = key
+key_in _ = []
+
+-- the active anchor is of a bearer of this SN length and first COUNT
+abbrev pub is_like : SnLen → ℕ → Option Active → Bool
+is_like n first None = false
+is_like n first (Some a) = (bits a.entity.setup.n == bits n) && (a.entity.setup.first == first)
+
+-- an item has its old anchor at the node, which has no such active one
+abbrev pub is_unfit : SecondNode → Item → Bool
+is_unfit s (item.Set id n first shape threshold policy key None) = false
+is_unfit s (item.Set id n first shape threshold policy key (Some old)) = is_same_node old (name_of s) && not (is_like n first (active_at s id))
+is_unfit s (item.Unset id) = false
+
+-- a record that the node's anchors do not fit is taken without effect: a plan with such an item, or the recovery of a bearer
+-- that is not active there
+abbrev pub is_fit_plan : SecondNode → Option Plan → Bool
+is_fit_plan s None = true
+is_fit_plan s (Some p) = not (list_any (is_unfit s) p.items)
+
+abbrev pub is_fit : SecondNode → Rec → Bool
+is_fit s (rec.Recov id) = is_some (active_at s id)
+is_fit s r = is_fit_plan s (plan_in r)
+
+-- a record that has no row in the state is taken without effect
+abbrev pub second_record_taken : Choices → List ℕ → SecondNode → Result SecondActs ProcFault → SecondNode × Effects
+second_record_taken c key s (Ok r) = second_does c key s r
+second_record_taken c key s (Err why) = (s, quiet)
+
+abbrev pub second_record : Choices → SecondNode → Rec → Bool → SecondNode × Effects
+second_record c s r true = second_record_taken c (key_in r) s (second_take s.proc r)
+second_record c s r false = (s, quiet)
+
+-- ---- the core's lines
+
+-- the SDU is one that a frozen anchor forwards
+abbrev pub is_before_change : ℕ → Option Frozen → Bool
+is_before_change g None = false
+is_before_change g (Some f) = nat_lt g f.tunnel.g
+
+-- an SDU comes to a frozen anchor
+abbrev pub frozen_took : SecondNode → ℕ → ℕ → List ℕ → Option Frozen → SecondNode × Effects
+frozen_took s id g payload None = (s, quiet)
+frozen_took s id g payload (Some f) =
+    let done = frozen_sdu_in f g payload in
+    (record s { frozen = holding id (Some done.0) s.frozen }, record { notes = []; sends = done.1 })
+
+-- or to an anchor
+abbrev pub fed_took : Choices → SecondNode → ℕ → ℕ → List ℕ → Option Fed → SecondNode × Effects
+fed_took c s id g payload None = (s, quiet)
+fed_took c s id g payload (Some x) = fed_did s id (sdu_in c x g payload)
+
+-- the line of a frozen anchor ends
+abbrev pub frozen_ended : SecondNode → ℕ → ℕ → Option Frozen → SecondNode × Effects
+frozen_ended s id g None = (s, quiet)
+frozen_ended s id g (Some f) =
+    let done = frozen_end_in f g in (record s { frozen = holding id done.0 s.frozen }, record { notes = []; sends = done.1 })
+
+-- or that of an anchor
+abbrev pub fed_ended : SecondNode → ℕ → ℕ → Option Fed → SecondNode × Effects
+fed_ended s id g None = (s, quiet)
+fed_ended s id g (Some x) = (with_fed s id (Some (end_in x g x.anchor)), quiet)
+
+-- a flight comes on the line from the core: SDUs and the end of a path do
+abbrev pub second_line : Choices → SecondNode → Flight → SecondNode × Effects
+second_line c s (flight.Sdu id g payload) =
+    if is_before_change g (held id s.frozen) then frozen_took s id g payload (held id s.frozen)
+    else fed_took c s id g payload (held id s.anchors)
+second_line c s (flight.End id g) =
+    if is_some (held id s.frozen) then frozen_ended s id g (held id s.frozen) else fed_ended s id g (held id s.anchors)
+second_line c s (flight.Told id g count) = (s, quiet)
+second_line c s (flight.Air id g num tag pdu) = (s, quiet)
+second_line c s (flight.Ack id g num) = (s, quiet)
+second_line c s (flight.Tun tag packet) = (s, quiet)
+second_line c s (flight.Ctl r) = (s, quiet)
+
+-- ---- other flights
+
+-- a step of the leg host of a bearer, where the node has it
+abbrev pub on_second_host : SecondNode → ℕ → (Host → Host × List Send) → Option Host → SecondNode × Effects
+on_second_host s id f None = (s, quiet)
+on_second_host s id f (Some h) =
+    let done = f h in (record s { hosts = holding id (Some done.0) s.hosts }, record { notes = []; sends = done.1 })
+
+-- a flight of user data: for the anchor of its bearer and generation, or else for the leg host
+abbrev pub second_data : SecondNode → (AnchorState → AnchorState × AnchorOut) → (Host → Host × List Send) → Option Named → SecondNode × Effects
+second_data s f h None = (s, quiet)
+second_data s f h (Some (id, g)) =
+    if is_fed_of g (held id s.anchors) then on_fed s id f (held id s.anchors) else on_second_host s id h (held id s.hosts)
+
+-- a flight comes on a control link: only records do
+abbrev pub second_control : Choices → SecondNode → Flight → SecondNode × Effects
+second_control c s (flight.Ctl r) = second_record c s r (is_fit s r)
+second_control c s (flight.Air id g num tag pdu) = (s, quiet)
+second_control c s (flight.Ack id g num) = (s, quiet)
+second_control c s (flight.Tun tag packet) = (s, quiet)
+second_control c s (flight.Sdu id g payload) = (s, quiet)
+second_control c s (flight.End id g) = (s, quiet)
+second_control c s (flight.Told id g count) = (s, quiet)
+
+-- a flight comes on a link of this class
+abbrev pub second_takes : Choices → SecondNode → Flight → Class → SecondNode × Effects
+second_takes c s f Ctl = second_control c s f
+second_takes c s f Feed = second_line c s f
+second_takes c s f Air = second_data s (λ a. air_in a Scg f) (λ h. host_air_in h f) (flight_named f)
+second_takes c s f Tun = second_data s (λ a. tunnel_in c a f) (λ h. host_tunnel_in h f) (flight_named f)
+
+-- a secondary node takes an input
+abbrev pub second_step : Choices → SecondNode → Input → SecondNode × Outcome
+second_step c s (Cmd e) = second_event c s e
+second_step c s (Come l f) = accepted (second_takes c s f l.class)
