@@ -1,5 +1,6 @@
 -- What a command would change: its plan, and the node that has to agree first (TS 37.340, 10.2 to 10.5 and 10.7).
 use Rattle.std.specs.Prelude.{List, None, Option, Some, [], filter, if◌then◌else◌, length, map, not, option_map, ℕ, ◌+◌, ◌==◌, ◌∷◌}
+use Rattle.dc_base.specs.Nodes.{is_mm}
 use Rattle.dc_base.specs.declared.events.Event.{Event}
 use Rattle.dc_base.specs.declared.events.Event.TheVariants as event
 use Rattle.dc_base.specs.declared.nodes.KeyName.{KeyName}
@@ -11,7 +12,7 @@ use Rattle.dc_base.specs.declared.records.Plan.{Plan}
 use Rattle.nr_u.specs.Frames.{number}
 use Rattle.key_chain.specs.Book.{Book, counters_drawn, noting}
 use Rattle.node_rules.specs.CommandTable.{Change, Row, Table, master_key_of, row, second_key_of, with_counter}
-use Rattle.node_rules.specs.Places.{is_mm, mm, other_second}
+use Rattle.node_rules.specs.Places.{mm, other_second}
 
 -- the first record of a command: S-NODE ADDITION, MODIFICATION or RELEASE REQUEST (TS 38.423, 8.3)
 pub data First : Type 0 where

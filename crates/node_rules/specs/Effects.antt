@@ -1,4 +1,16 @@
 -- What comes of a step of a node besides its new state: notes and sends, each in the order in which they happen.
+use Rattle.std.specs.Prelude.{List, None, Option, Some, [], ◌++◌, ◌∷◌}
+use Rattle.dc_base.specs.Links.{link}
+use Rattle.dc_base.specs.declared.answers.Answer.TheVariants as answer
+use Rattle.dc_base.specs.declared.answers.Refusal.{Refusal}
+use Rattle.dc_base.specs.declared.events.Note.{Note}
+use Rattle.dc_base.specs.declared.flights.Flight.{Flight}
+use Rattle.dc_base.specs.declared.flights.Flight.TheVariants as flight
+use Rattle.dc_base.specs.declared.nodes.LinkId.{LinkId}
+use Rattle.dc_base.specs.declared.nodes.Node.{Node}
+use Rattle.dc_base.specs.declared.records.Rec.{Rec}
+use Rattle.node_rules.specs.Choices.{Outcome, Send}
+
 pub record Effects : Type 0 where
   pub notes : List Note
   pub sends : List Send

@@ -1,4 +1,14 @@
 -- Which bearer and generation a flight is of.
+use Rattle.std.specs.Prelude.{Bool, List, None, Option, Some, false, if◌then◌else◌, nat_lt, ℕ, ◌+◌}
+use Rattle.dc_base.specs.Count.{window}
+use Rattle.dc_base.specs.declared.flights.Flight.{Flight}
+use Rattle.dc_base.specs.declared.flights.Flight.TheVariants as flight
+use Rattle.dc_base.specs.declared.numbers.SnLen.{SnLen}
+use Rattle.nr_u.specs.Frames.{number}
+use Rattle.nr_u.specs.declared.frame.Frame.{Frame}
+use Rattle.nr_u.specs.declared.frame.Frame.TheVariants as frame
+use Rattle.transcript.specs.Text.{is_data}
+use Rattle.node_rules.specs.Packets.{Packet, delivery, forwarding, nothing, packet_of, pdu_down, pdu_up}
 
 -- an identity and a generation
 abbrev pub Named : Type 0

@@ -2,6 +2,7 @@
 use Rattle.std.specs.BTreeMap.{insert_entry, is_at} -- kept
 use Rattle.std.specs.Map.{lookup, remove_entry} -- kept
 use Rattle.std.specs.Ordering.{nat_cmp} -- kept
+use Rattle.std.specs.Prelude.{List, None, Option, Some, map, ℕ}
 
 -- what is held of an identity
 abbrev pub held : {X : Type 0} → ℕ → List (ℕ × X) → Option X

@@ -1,5 +1,20 @@
 -- What the master holds, and what comes of its anchors (TS 37.340, 4.2.2): besides its procedures, the anchors and leg hosts at
 -- its node and the core's user plane end, which owns the downlink windows (this product's own).
+use Rattle.std.specs.Prelude.{Bool, List, None, Option, Some, [], false, filter, if◌then◌else◌, map, nat_lt, not, true, ℕ, ◌==◌}
+use Rattle.dc_base.specs.declared.events.Note.{Note}
+use Rattle.dc_base.specs.declared.events.Note.TheVariants as note
+use Rattle.dc_base.specs.declared.nodes.Alg.{Alg}
+use Rattle.dc_base.specs.declared.nodes.Dir.{Dir}
+use Rattle.dc_base.specs.declared.nodes.Dir.TheVariants.{Dl, Ul}
+use Rattle.dc_base.specs.declared.nodes.Node.{Node}
+use Rattle.dc_base.specs.declared.nodes.Node.TheVariants.{M}
+use Rattle.transcript.specs.Bearers.{ups}
+use Rattle.node_rules.specs.Anchor.{AnchorOut, AnchorState, active_anchor, setup_at, waiting_anchor}
+use Rattle.node_rules.specs.CommandTable.{Row}
+use Rattle.node_rules.specs.Effects.{Effects, after_effects, noted, quiet}
+use Rattle.node_rules.specs.Held.{held, holding}
+use Rattle.node_rules.specs.Host.{Host}
+use Rattle.node_rules.specs.MasterState.{MasterProc, new_master_proc}
 
 -- the window of a bearer's downlink: how many submissions were accepted, and the greatest COUNT that an anchor told as its Low
 pub record Window : Type 0 where

@@ -1,5 +1,6 @@
 -- The commands that the master takes, and when it refuses them.
 use Rattle.std.specs.Prelude.{Bool, Err, List, None, Ok, Option, Result, Some, [], bytes_eq, false, is_none, is_some, nat_le, not, true, ℕ, ◌&&◌, ◌∷◌}
+use Rattle.dc_base.specs.Nodes.{is_mm}
 use Rattle.dc_base.specs.declared.answers.Refusal.{Refusal}
 use Rattle.dc_base.specs.declared.answers.Refusal.TheVariants as refusal
 use Rattle.dc_base.specs.declared.events.Event.{Event}
@@ -16,7 +17,6 @@ use Rattle.node_rules.specs.Drafts.{draft}
 use Rattle.node_rules.specs.MasterEnds.{is_release_spent}
 use Rattle.node_rules.specs.MasterGo.{begins_if}
 use Rattle.node_rules.specs.MasterState.{MasterActs, MasterProc, has_bearer, recovering}
-use Rattle.node_rules.specs.Places.{is_mm}
 
 -- the table has no secondary node
 abbrev pub is_alone : MasterProc → Bool

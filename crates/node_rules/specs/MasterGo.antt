@@ -1,6 +1,7 @@
 -- A command begins, and its plan is carried out (TS 37.340, 10.2 to 10.5 and 10.7).
 use Rattle.std.specs.List.{list_any}
 use Rattle.std.specs.Prelude.{Bool, List, None, Option, Some, [], false, flat_map, if◌then◌else◌, ℕ, ◌++◌, ◌∷◌}
+use Rattle.dc_base.specs.Nodes.{is_same_node}
 use Rattle.dc_base.specs.declared.events.Note.TheVariants as note
 use Rattle.dc_base.specs.declared.nodes.Node.{Node}
 use Rattle.dc_base.specs.declared.nodes.Node.TheVariants.{M, T}
@@ -16,7 +17,7 @@ use Rattle.node_rules.specs.Acts.{Act, go, prepare, say, send}
 use Rattle.node_rules.specs.CommandTable.{Change, carried, master_key_of}
 use Rattle.node_rules.specs.Drafts.{Draft, First, addition, modification, release}
 use Rattle.node_rules.specs.MasterState.{MasterActs, MasterProc, asked, gone}
-use Rattle.node_rules.specs.Places.{anchor_at, is_same_node}
+use Rattle.node_rules.specs.Places.{anchor_at}
 
 -- a bearer of the plan that moves to another node, with its new anchor
 abbrev pub moving_of : Option Node → Item → List (ℕ × Node)

@@ -1,4 +1,34 @@
 -- How the master carries a plan out at its node (TS 37.340, 10.2 to 10.5), and what its procedures have it do.
+use Rattle.std.specs.Prelude.{Bool, List, None, Option, Some, [], false, if◌then◌else◌, option_map, true, ℕ, ◌∷◌}
+use Rattle.dc_base.specs.Links.{link}
+use Rattle.dc_base.specs.Nodes.{is_same_node}
+use Rattle.dc_base.specs.Records.{item_id}
+use Rattle.dc_base.specs.declared.events.Note.{Note}
+use Rattle.dc_base.specs.declared.events.Note.TheVariants as note
+use Rattle.dc_base.specs.declared.flights.Flight.TheVariants as flight
+use Rattle.dc_base.specs.declared.nodes.KeyName.{KeyName}
+use Rattle.dc_base.specs.declared.nodes.Node.{Node}
+use Rattle.dc_base.specs.declared.nodes.Node.TheVariants.{A, B, M, T}
+use Rattle.dc_base.specs.declared.records.Item.{Item}
+use Rattle.dc_base.specs.declared.records.Item.TheVariants as item
+use Rattle.dc_base.specs.declared.records.Plan.{Plan}
+use Rattle.dc_base.specs.declared.records.Rec.TheVariants as rec
+use Rattle.key_chain.specs.KeyNames.{octets}
+use Rattle.transcript.specs.Bearers.{roots}
+use Rattle.node_rules.specs.Acts.{Act, fail_one, go, pass, prepare, recover_one, say, send, unlock_all}
+use Rattle.node_rules.specs.Adopting.{status_in}
+use Rattle.node_rules.specs.Anchor.{AnchorOut, AnchorState, active_anchor, fresh, renew, setup_at, waiting, waiting_anchor}
+use Rattle.node_rules.specs.AnchorSending.{fail_scg, recover, unlock}
+use Rattle.node_rules.specs.Choices.{Choices}
+use Rattle.node_rules.specs.Effects.{Effects, after_effects, both, in_turn, noted, quiet, sent, told}
+use Rattle.node_rules.specs.Freezing.{freeze}
+use Rattle.node_rules.specs.Held.{held, holding, identities}
+use Rattle.node_rules.specs.Master.{MasterNode, Window, anchor_did, on_anchor, on_anchor_of, without_waiting}
+use Rattle.node_rules.specs.MasterState.{MasterActs}
+use Rattle.node_rules.specs.MasterTaking.{master_adopted}
+use Rattle.node_rules.specs.Parts.{Part, awaits, drops, establishes, hands_over, has_no_anchor, host_in, is_hosted_at, item_key, part_at, renews}
+use Rattle.node_rules.specs.Places.{anchor_at}
+use Rattle.node_rules.specs.Setup.{Setup, setup_of}
 
 -- the octets of the key that an item sets
 abbrev pub key_octets : List (List ℕ) → Option KeyName → List ℕ

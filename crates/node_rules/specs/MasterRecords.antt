@@ -1,6 +1,7 @@
 -- The records that the master takes (TS 38.423, 8.2.2 and 8.3; TS 38.331, 5.3.5 and 5.7.3): each with what it does in each state.
 use Rattle.std.specs.List.{list_any}
 use Rattle.std.specs.Prelude.{Bool, Err, List, None, Ok, Option, Result, Some, [], false, filter, find, flat_map, if◌then◌else◌, is_some, not, true, ℕ, ◌&&◌, ◌++◌, ◌==◌, ◌∷◌}
+use Rattle.dc_base.specs.Nodes.{is_same_node}
 use Rattle.dc_base.specs.declared.answers.Word.{Word}
 use Rattle.dc_base.specs.declared.answers.Word.TheVariants as word
 use Rattle.dc_base.specs.declared.events.Event.{Event}
@@ -22,7 +23,7 @@ use Rattle.node_rules.specs.Drafts.{First, addition, draft, modification, releas
 use Rattle.node_rules.specs.MasterEnds.{ends, tries, waits_for}
 use Rattle.node_rules.specs.MasterGo.{before_acts, begins_if, goes, way}
 use Rattle.node_rules.specs.MasterState.{Command, Going, MasterActs, MasterProc, asked, gone, recovering, with_waits}
-use Rattle.node_rules.specs.Places.{is_at, is_same_node, other_second}
+use Rattle.node_rules.specs.Places.{is_at, other_second}
 
 -- a record that has no row in the state
 abbrev pub no_row : RecKind → Result MasterActs ProcFault

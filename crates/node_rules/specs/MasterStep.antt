@@ -1,4 +1,33 @@
 -- What the master does with one input.
+use Rattle.std.specs.Prelude.{Bool, Err, List, None, Ok, Option, Result, Some, [], false, if◌then◌else◌, length, nat_le, true, ℕ, ◌+◌, ◌-◌, ◌==◌, ◌^◌, ◌∷◌}
+use Rattle.dc_base.specs.Count.{window}
+use Rattle.dc_base.specs.Links.{link}
+use Rattle.dc_base.specs.declared.answers.Refusal.{Refusal}
+use Rattle.dc_base.specs.declared.answers.Refusal.TheVariants as refusal
+use Rattle.dc_base.specs.declared.events.Event.{Event}
+use Rattle.dc_base.specs.declared.events.Event.TheVariants as event
+use Rattle.dc_base.specs.declared.flights.Flight.{Flight}
+use Rattle.dc_base.specs.declared.flights.Flight.TheVariants as flight
+use Rattle.dc_base.specs.declared.nodes.Class.{Class}
+use Rattle.dc_base.specs.declared.nodes.LegSet.TheVariants.{Mcg}
+use Rattle.dc_base.specs.declared.nodes.Node.{Node}
+use Rattle.dc_base.specs.declared.nodes.Node.TheVariants.{A, B, M, T}
+use Rattle.node_rules.specs.Acts.{ProcFault, first_refusal, refused, unexpected}
+use Rattle.node_rules.specs.Anchor.{AnchorOut, AnchorState, setup_at}
+use Rattle.node_rules.specs.AnchorReceiving.{air_in, tunnel_in}
+use Rattle.node_rules.specs.AnchorSending.{report, submit}
+use Rattle.node_rules.specs.Choices.{Choices, Cmd, Come, Input, Outcome, Send}
+use Rattle.node_rules.specs.CommandTable.{Row, row}
+use Rattle.node_rules.specs.Effects.{Effects, accepted, in_turn, quiet, sent, turned_down, unless}
+use Rattle.node_rules.specs.Flights.{Named, flight_named}
+use Rattle.node_rules.specs.Held.{held, holding}
+use Rattle.node_rules.specs.Host.{Host}
+use Rattle.node_rules.specs.HostRules.{host_air_in, host_tunnel_in}
+use Rattle.node_rules.specs.Master.{MasterNode, Window, on_anchor, told_by}
+use Rattle.node_rules.specs.MasterCommands.{master_command}
+use Rattle.node_rules.specs.MasterPlan.{does, master_did, on_waiting}
+use Rattle.node_rules.specs.MasterState.{MasterActs, has_bearer, is_unsettled}
+use Rattle.node_rules.specs.MasterTaking.{master_take}
 
 -- ---- its events
 

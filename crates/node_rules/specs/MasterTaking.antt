@@ -6,7 +6,7 @@ use Rattle.dc_base.specs.declared.nodes.Want.TheVariants as want
 use Rattle.dc_base.specs.declared.records.Rec.{Rec}
 use Rattle.dc_base.specs.declared.records.Rec.TheVariants as rec
 use Rattle.dc_base.specs.declared.records.RecKind.TheVariants as kind
-use Rattle.node_rules.specs.Acts.{ProcFault, kind_of}
+use Rattle.node_rules.specs.Acts.{ProcFault}
 use Rattle.node_rules.specs.Drafts.{addition, modification, release}
 use Rattle.node_rules.specs.MasterEnds.{waits_for}
 use Rattle.node_rules.specs.MasterRecords.{agreed, completed, failed_legs, is_moving, moved, no_row, recovered, rejected, released, transferred, wanted_by}

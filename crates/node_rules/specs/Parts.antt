@@ -1,4 +1,13 @@
 -- The part that a node has in an item of a plan: what it is to do with the bearer there (TS 37.340, 10.2 to 10.5).
+use Rattle.std.specs.Prelude.{Bool, None, Option, Some, false, if◌then◌else◌, option_and_then, true}
+use Rattle.dc_base.specs.Nodes.{is_same_node}
+use Rattle.dc_base.specs.declared.nodes.KeyName.{KeyName}
+use Rattle.dc_base.specs.declared.nodes.Node.{Node}
+use Rattle.dc_base.specs.declared.records.Item.{Item}
+use Rattle.dc_base.specs.declared.records.Item.TheVariants as item
+use Rattle.node_rules.specs.Host.{Host, new_host}
+use Rattle.node_rules.specs.Places.{anchor_at, is_host_at}
+use Rattle.node_rules.specs.Setup.{Setup}
 
 -- with the anchor: a new bearer begins here; the anchor stays here; it comes from another node; it goes to another node; the
 -- bearer is dropped; or nothing of it is here
@@ -36,11 +45,6 @@ is_hosted_at me sec (item.Unset id) = false
 abbrev pub host_in : Option Setup → Bool → Option Host
 host_in s false = None
 host_in s true = option_and_then new_host s
-
--- the identity that an item is about
-abbrev pub item_id : Item → ℕ
-item_id (item.Set id n first shape threshold policy key old) = id
-item_id (item.Unset id) = id
 
 -- the name of the key that an item sets
 abbrev pub item_key : Item → Option KeyName

@@ -1,15 +1,11 @@
 -- Where a bearer has its anchor and its legs (TS 37.340, 4.2.2 and 8): at which nodes, for a shape and a secondary node.
-use Rattle.std.specs.Prelude.{Bool, None, Option, Some, false, if◌then◌else◌, not, true, ◌&&◌, ◌==◌, ◌||◌}
+use Rattle.std.specs.Prelude.{Bool, None, Option, Some, false, if◌then◌else◌, not, true, ◌&&◌, ◌||◌}
+use Rattle.dc_base.specs.Nodes.{is_same_node}
 use Rattle.dc_base.specs.declared.nodes.LegSet.{LegSet}
 use Rattle.dc_base.specs.declared.nodes.LegSet.TheVariants.{Mcg, Scg, Split}
 use Rattle.dc_base.specs.declared.nodes.Node.{Node}
 use Rattle.dc_base.specs.declared.nodes.Node.TheVariants.{A, B, M, T}
 use Rattle.dc_base.specs.declared.nodes.Shape.{Shape}
-use Rattle.transcript.specs.Content.{node_number}
-
--- both are the same node
-abbrev pub is_same_node : Node → Node → Bool
-is_same_node x y = node_number x == node_number y
 
 -- the node that may be there is this one
 abbrev pub is_at : Node → Option Node → Bool
@@ -55,7 +51,3 @@ is_host_at sec s x = has_leg_at sec s x && not (is_same_node x (anchor_at sec s)
 -- the anchor and the only leg at the master: an MCG bearer with its PDCP there
 abbrev pub mm : Shape
 mm = record { at_second = false; legs = Mcg; dup = false }
-
--- it is that shape
-abbrev pub is_mm : Shape → Bool
-is_mm s = not s.at_second && not (has_scg s.legs)

@@ -1,4 +1,26 @@
 -- How a secondary node carries a plan out (TS 37.340, 10.2 to 10.5), and what its procedures have it do.
+use Rattle.std.specs.Prelude.{List, None, Option, Some, [], option_map, ℕ, ◌∷◌}
+use Rattle.dc_base.specs.Links.{link}
+use Rattle.dc_base.specs.Records.{item_id}
+use Rattle.dc_base.specs.declared.events.Note.TheVariants as note
+use Rattle.dc_base.specs.declared.flights.Flight.TheVariants as flight
+use Rattle.dc_base.specs.declared.nodes.Node.{Node}
+use Rattle.dc_base.specs.declared.nodes.Node.TheVariants.{M}
+use Rattle.dc_base.specs.declared.records.Item.{Item}
+use Rattle.dc_base.specs.declared.records.Plan.{Plan}
+use Rattle.dc_base.specs.declared.records.Rec.TheVariants as rec
+use Rattle.node_rules.specs.Acts.{Act, fail_one, go, pass, prepare, recover_one, say, send, unlock_all}
+use Rattle.node_rules.specs.Adopting.{status_in}
+use Rattle.node_rules.specs.Anchor.{Active, AnchorState, active_anchor, fresh, renew, waiting}
+use Rattle.node_rules.specs.AnchorSending.{fail_scg, recover, unlock}
+use Rattle.node_rules.specs.Choices.{Choices}
+use Rattle.node_rules.specs.Effects.{Effects, in_turn, noted, quiet, told}
+use Rattle.node_rules.specs.Feed.{Fed, freeze_fed, frozen_of}
+use Rattle.node_rules.specs.Held.{held, holding, identities}
+use Rattle.node_rules.specs.Parts.{Part, awaits, drops, establishes, hands_over, has_no_anchor, host_in, is_hosted_at, part_at, renews}
+use Rattle.node_rules.specs.SecondState.{SecondActs}
+use Rattle.node_rules.specs.Secondary.{SecondNode, active_in, name_of, on_fed, on_fed_of, within}
+use Rattle.node_rules.specs.Setup.{Setup, setup_of}
 
 -- an anchor that begins at the node in the generation of a plan: SDUs of older ones are not of its bearer
 abbrev pub beginning : ℕ → AnchorState → Fed

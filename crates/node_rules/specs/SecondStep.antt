@@ -1,4 +1,36 @@
 -- What a secondary node does with one input.
+use Rattle.std.specs.List.{list_any}
+use Rattle.std.specs.Prelude.{Bool, Err, List, None, Ok, Option, Result, Some, [], false, if◌then◌else◌, is_some, nat_lt, not, true, ℕ, ◌&&◌, ◌==◌}
+use Rattle.dc_base.specs.Count.{bits}
+use Rattle.dc_base.specs.Nodes.{is_same_node}
+use Rattle.dc_base.specs.declared.answers.Refusal.TheVariants as refusal
+use Rattle.dc_base.specs.declared.events.Event.{Event}
+use Rattle.dc_base.specs.declared.events.Event.TheVariants as event
+use Rattle.dc_base.specs.declared.flights.Flight.{Flight}
+use Rattle.dc_base.specs.declared.flights.Flight.TheVariants as flight
+use Rattle.dc_base.specs.declared.nodes.Class.{Class}
+use Rattle.dc_base.specs.declared.nodes.LegSet.TheVariants.{Scg}
+use Rattle.dc_base.specs.declared.numbers.SnLen.{SnLen}
+use Rattle.dc_base.specs.declared.records.Item.{Item}
+use Rattle.dc_base.specs.declared.records.Item.TheVariants as item
+use Rattle.dc_base.specs.declared.records.Plan.{Plan}
+use Rattle.dc_base.specs.declared.records.Rec.{Rec}
+use Rattle.dc_base.specs.declared.records.Rec.TheVariants as rec
+use Rattle.node_rules.specs.Acts.{ProcFault, refused, unexpected}
+use Rattle.node_rules.specs.Anchor.{Active, AnchorOut, AnchorState}
+use Rattle.node_rules.specs.AnchorReceiving.{air_in, tunnel_in}
+use Rattle.node_rules.specs.AnchorSending.{report}
+use Rattle.node_rules.specs.Choices.{Choices, Cmd, Come, Input, Outcome, Send}
+use Rattle.node_rules.specs.Effects.{Effects, accepted, quiet, turned_down}
+use Rattle.node_rules.specs.Feed.{Fed, Frozen, end_in, frozen_end_in, frozen_sdu_in, sdu_in}
+use Rattle.node_rules.specs.Flights.{Named, flight_named}
+use Rattle.node_rules.specs.Held.{held, holding}
+use Rattle.node_rules.specs.Host.{Host}
+use Rattle.node_rules.specs.HostRules.{host_air_in, host_tunnel_in}
+use Rattle.node_rules.specs.SecondPlan.{second_does, with_fed}
+use Rattle.node_rules.specs.SecondRecords.{second_take}
+use Rattle.node_rules.specs.SecondState.{SecondActs, second_command}
+use Rattle.node_rules.specs.Secondary.{SecondNode, active_at, fed_did, is_fed_of, name_of, on_fed}
 
 -- ---- its events
 

@@ -1,5 +1,22 @@
 -- What a secondary node holds, and what comes of its anchors (TS 37.340, 4.2.2): besides its procedures, the anchors with the
 -- core's lines to them, what is left of frozen ones, and the leg hosts.
+use Rattle.std.specs.Prelude.{Bool, List, None, Option, Some, [], false, if◌then◌else◌, option_and_then, true, ℕ, ◌==◌}
+use Rattle.dc_base.specs.Links.{link}
+use Rattle.dc_base.specs.declared.events.Note.TheVariants as note
+use Rattle.dc_base.specs.declared.flights.Flight.TheVariants as flight
+use Rattle.dc_base.specs.declared.nodes.Alg.{Alg}
+use Rattle.dc_base.specs.declared.nodes.Dir.TheVariants.{Ul}
+use Rattle.dc_base.specs.declared.nodes.Node.{Node}
+use Rattle.dc_base.specs.declared.nodes.Node.TheVariants.{M}
+use Rattle.dc_base.specs.declared.records.Rec.TheVariants as rec
+use Rattle.node_rules.specs.Anchor.{Active, AnchorOut, AnchorState, active_anchor, setup_at, waiting_anchor}
+use Rattle.node_rules.specs.Effects.{Effects, both, noted, quiet, sent, told}
+use Rattle.node_rules.specs.Feed.{Fed, Frozen}
+use Rattle.node_rules.specs.Held.{held, holding}
+use Rattle.node_rules.specs.Host.{Host}
+use Rattle.node_rules.specs.Master.{handed_up}
+use Rattle.node_rules.specs.SecondState.{Membership, SecondProc, joined, left, new_second_proc, outside}
+
 pub record SecondNode : Type 0 where
   pub alg : Alg
   pub proc : SecondProc

@@ -1,4 +1,34 @@
 -- The terminal: what it holds, and what it does with one input (TS 38.331, 5.3.5 and 5.7.3).
+use Rattle.std.specs.List.{list_any}
+use Rattle.std.specs.Prelude.{Bool, List, None, Option, Some, [], false, flat_map, if◌then◌else◌, is_none, is_some, map, not, true, ℕ, ◌&&◌, ◌++◌, ◌==◌, ◌∷◌}
+use Rattle.dc_base.specs.Count.{bits}
+use Rattle.dc_base.specs.declared.answers.Answer.{Answer}
+use Rattle.dc_base.specs.declared.answers.Refusal.TheVariants as refusal
+use Rattle.dc_base.specs.declared.events.Event.{Event}
+use Rattle.dc_base.specs.declared.events.Event.TheVariants as event
+use Rattle.dc_base.specs.declared.events.Note.{Note}
+use Rattle.dc_base.specs.declared.events.Note.TheVariants as note
+use Rattle.dc_base.specs.declared.flights.Flight.{Flight}
+use Rattle.dc_base.specs.declared.flights.Flight.TheVariants as flight
+use Rattle.dc_base.specs.declared.nodes.Alg.{Alg}
+use Rattle.dc_base.specs.declared.nodes.Class.{Class}
+use Rattle.dc_base.specs.declared.nodes.Dir.TheVariants.{Dl, Ul}
+use Rattle.dc_base.specs.declared.nodes.Node.{Node}
+use Rattle.dc_base.specs.declared.nodes.Node.TheVariants.{M, T}
+use Rattle.dc_base.specs.declared.numbers.SnLen.{SnLen}
+use Rattle.dc_base.specs.declared.records.Item.{Item}
+use Rattle.dc_base.specs.declared.records.Item.TheVariants as item
+use Rattle.dc_base.specs.declared.records.Plan.{Plan}
+use Rattle.dc_base.specs.declared.records.Rec.{Rec}
+use Rattle.dc_base.specs.declared.records.Rec.TheVariants as rec
+use Rattle.key_chain.specs.KeyNames.{octets_of_side}
+use Rattle.node_rules.specs.Choices.{Choices, Cmd, Come, Input, Outcome, Send}
+use Rattle.node_rules.specs.Effects.{Effects, accepted, after_effects, in_turn, noted, quiet, told, turned_down}
+use Rattle.node_rules.specs.Flights.{Named, flight_named}
+use Rattle.node_rules.specs.Held.{held, holding}
+use Rattle.node_rules.specs.Master.{handed_up}
+use Rattle.node_rules.specs.Setup.{Setup, cell_of, setup_of}
+use Rattle.node_rules.specs.TerminalHalf.{HalfOut, TerminalHalf, has_live_scg, terminal_air_in, terminal_fail, terminal_new, terminal_recover, terminal_renew, terminal_report, terminal_submit}
 
 -- the secondary node of the last plan taken, and the bearers
 pub record TerminalNode : Type 0 where

@@ -1,4 +1,36 @@
 -- The four nodes and what stands on the links between them, one event after another.
+use Rattle.std.specs.Prelude.{List, None, Option, Some, [], filter, if◌then◌else◌, map, nat_lt, option_and_then, option_map, slice_get, suc, zero, ℕ, ◌&&◌, ◌++◌, ◌==◌, ◌∷◌}
+use Rattle.dc_base.specs.Links.{is_ordered, is_same_link, is_tunnel}
+use Rattle.dc_base.specs.declared.answers.Refusal.{Refusal}
+use Rattle.dc_base.specs.declared.answers.Refusal.TheVariants as refusal
+use Rattle.dc_base.specs.declared.events.Event.{Event}
+use Rattle.dc_base.specs.declared.events.Event.TheVariants as event
+use Rattle.dc_base.specs.declared.events.Header.{Header}
+use Rattle.dc_base.specs.declared.events.Line.{Line}
+use Rattle.dc_base.specs.declared.flights.Flight.{Flight}
+use Rattle.dc_base.specs.declared.nodes.Dir.{Dir}
+use Rattle.dc_base.specs.declared.nodes.Dir.TheVariants.{Dl, Ul}
+use Rattle.dc_base.specs.declared.nodes.LinkId.{LinkId}
+use Rattle.dc_base.specs.declared.nodes.Node.{Node}
+use Rattle.dc_base.specs.declared.nodes.Node.TheVariants.{A, B, M, T}
+use Rattle.pdcp_tx.specs.Sender.{low}
+use Rattle.transcript.specs.Content.{place_taken}
+use Rattle.transcript.specs.Transcript.{Entry}
+use Rattle.node_rules.specs.Anchor.{Active, AnchorState}
+use Rattle.node_rules.specs.Choices.{Choices, Cmd, Come, Input, Outcome, Send}
+use Rattle.node_rules.specs.Effects.{accepted, quiet, sent, turned_down}
+use Rattle.node_rules.specs.Entity.{Entity}
+use Rattle.node_rules.specs.Feed.{Fed}
+use Rattle.node_rules.specs.Flights.{Edges, is_aged_for, weight}
+use Rattle.node_rules.specs.Held.{held}
+use Rattle.node_rules.specs.Lines.{lines_of}
+use Rattle.node_rules.specs.Master.{MasterNode, new_master}
+use Rattle.node_rules.specs.MasterStep.{master_step}
+use Rattle.node_rules.specs.SecondStep.{second_step}
+use Rattle.node_rules.specs.Secondary.{SecondNode, active_in, new_second}
+use Rattle.node_rules.specs.Sending.{sends}
+use Rattle.node_rules.specs.Terminal.{TerminalNode, new_terminal, terminal_step}
+
 pub record World : Type 0 where
   pub terminal : TerminalNode
   pub master : MasterNode
