@@ -12,7 +12,7 @@ use Rattle.pdcp_pdu.specs.Pdu.{Content, decoded}
 use Rattle.pdcp_pdu.specs.declared.pdu.PduErr.{PduErr}
 use Rattle.pdcp_tx.specs.Sender.{low}
 use Rattle.split_leg.specs.Legs.{acked_count, leg_at, with_ack, with_leg}
-use Rattle.transcript.specs.Content.{link}
+use Rattle.dc_base.specs.Links.{link}
 use Rattle.node_rules.specs.Adopting.{forward_in}
 use Rattle.node_rules.specs.Anchor.{Active, AnchorOut, AnchorState, active_anchor, setup_at, silent, waiting_anchor}
 use Rattle.node_rules.specs.AnchorSending.{anchor_sends}

@@ -10,7 +10,7 @@ use Rattle.nr_u.specs.Outgoing.{Outgoing, with_sent}
 use Rattle.pdcp_tx.specs.Sender.{Sender}
 use Rattle.pdcp_tx.specs.Sending.{taken, holding, numbered}
 use Rattle.pdcp_tx.specs.declared.tx.TxErr.{TxErr}
-use Rattle.transcript.specs.Content.{link}
+use Rattle.dc_base.specs.Links.{link}
 use Rattle.node_rules.specs.Anchor.{Active, AnchorOut, AnchorState, active_anchor, sending, silent, waiting_anchor}
 use Rattle.node_rules.specs.Choices.{Choices, Send}
 use Rattle.node_rules.specs.Entity.{Entity}

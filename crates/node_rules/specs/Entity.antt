@@ -1,12 +1,11 @@
 -- A PDCP entity, both its sides, over the legs of its bearer (TS 38.323, 4.2.2): terminal and anchor have the same one.
 use Rattle.std.specs.Prelude.{ℕ, ◌+◌, ◌-◌, ◌^◌, ◌==◌, nat_lt, not, if◌then◌else◌, Bool, true, false, List, [], ◌∷◌, ◌++◌, length, filter, fold, Option, Some, None}
 use Rattle.dc_base.specs.Count.{sn, count_for}
+use Rattle.dc_base.specs.Nodes.{opposite}
 use Rattle.dc_base.specs.declared.nodes.Alg.{Alg}
 use Rattle.dc_base.specs.declared.nodes.Alg.TheVariants.{Nea0, Nea2}
 use Rattle.dc_base.specs.declared.nodes.Dir.{Dir}
-use Rattle.dc_base.specs.declared.nodes.Dir.TheVariants.{Ul, Dl}
 use Rattle.dc_base.specs.declared.nodes.Node.{Node}
-use Rattle.dc_base.specs.declared.nodes.Node.TheVariants.{T}
 use Rattle.key_chain.specs.Derived.{k_upenc}
 use Rattle.nea2.specs.Combined.{combined}
 use Rattle.nea2.specs.Keystream.{keystream}
@@ -51,8 +50,7 @@ ciphered s d count octets = combined octets (stream s.alg s.key count s.id d (le
 
 -- the direction in which a node receives
 abbrev pub direction_to : Node → Dir
-direction_to T = Dl
-direction_to _ = Ul
+direction_to node = opposite (direction_from node)
 
 -- the data PDU of an SDU with its COUNT
 abbrev pub pdu_of : Setup → Entry → List ℕ

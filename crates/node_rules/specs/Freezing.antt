@@ -14,7 +14,7 @@ use Rattle.gtpu.specs.Content.{Content}
 use Rattle.gtpu.specs.Spelling.{spelling}
 use Rattle.pdcp_pdu.specs.StatusReport.{whole_bits}
 use Rattle.pdcp_rx.specs.Entries.{Entry, counts_of}
-use Rattle.transcript.specs.Content.{link}
+use Rattle.dc_base.specs.Links.{link}
 use Rattle.node_rules.specs.Anchor.{Active}
 use Rattle.node_rules.specs.Choices.{Send}
 use Rattle.node_rules.specs.Entity.{Entity}

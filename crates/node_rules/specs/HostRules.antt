@@ -9,7 +9,7 @@ use Rattle.nr_u.specs.Delivery.{status_of, tag_of}
 use Rattle.nr_u.specs.Incoming.{has, with_ack, with_arrival}
 use Rattle.pdcp_pdu.specs.Pdu.{Content, sdu, report, decoded}
 use Rattle.pdcp_pdu.specs.declared.pdu.PduErr.{PduErr}
-use Rattle.transcript.specs.Content.{link}
+use Rattle.dc_base.specs.Links.{link}
 use Rattle.node_rules.specs.Choices.{Send}
 use Rattle.node_rules.specs.Host.{Host}
 use Rattle.node_rules.specs.Packets.{Packet, delivery, forwarding, nothing, packet_of, pdu_down, pdu_up, status_packet, up_packet}

@@ -9,7 +9,7 @@ use Rattle.dc_base.specs.declared.events.Note.{Note}
 use Rattle.dc_base.specs.declared.events.Note.TheVariants as note
 use Rattle.dc_base.specs.declared.events.Line.{Line}
 use Rattle.dc_base.specs.declared.events.Line.TheVariants as line
-use Rattle.transcript.specs.Content.{all_links, is_same_link}
+use Rattle.dc_base.specs.Links.{all_links, is_same_link}
 use Rattle.node_rules.specs.Choices.{Outcome, Send}
 
 -- where a note stands among the notes of an event; the sends stand after place 4

@@ -13,7 +13,7 @@ use Rattle.dc_base.specs.declared.records.Item.TheVariants.{Set, Unset}
 use Rattle.dc_base.specs.declared.records.Plan.{Plan}
 use Rattle.split_leg.specs.Legs.{LegsState, LegState, leg_at, with_leg}
 use Rattle.split_leg.specs.Routes.{has_leg}
-use Rattle.transcript.specs.Content.{node_number}
+use Rattle.dc_base.specs.Nodes.{is_same_node}
 
 pub record Setup : Type 0 where
   pub node : Node  -- where it is set up
@@ -80,7 +80,7 @@ node_of sec Scg = sec
 -- the node is the one that may be there
 abbrev pub is_there : Node → Option Node → Bool
 is_there x None = false
-is_there x (Some y) = node_number x == node_number y
+is_there x (Some y) = is_same_node x y
 
 -- the bearer has a leg over the cells of this node
 abbrev pub has_leg_at : Setup → Node → Bool

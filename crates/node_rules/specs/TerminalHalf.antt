@@ -18,7 +18,7 @@ use Rattle.pdcp_tx.specs.Sending.{taken}
 use Rattle.pdcp_tx.specs.declared.tx.TxErr.{TxErr}
 use Rattle.pdcp_tx.specs.declared.tx.TxErr.TheVariants as unable
 use Rattle.split_leg.specs.Legs.{leg_at, with_ack, with_leg}
-use Rattle.transcript.specs.Content.{link}
+use Rattle.dc_base.specs.Links.{link}
 use Rattle.node_rules.specs.Choices.{Choices, Send}
 use Rattle.node_rules.specs.Entity.{Entity, new_entity, renewed, risen_low, take_pdu}
 use Rattle.node_rules.specs.Sending.{OnLeg, send_counts, send_kept, send_report}
