@@ -1,1 +1,3 @@
 mod Scripts
+mod Rows1
+mod Rows2

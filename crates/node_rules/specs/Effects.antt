@@ -6,6 +6,7 @@ use Rattle.dc_base.specs.declared.answers.Refusal.{Refusal}
 use Rattle.dc_base.specs.declared.events.Note.{Note}
 use Rattle.dc_base.specs.declared.flights.Flight.{Flight}
 use Rattle.dc_base.specs.declared.flights.Flight.TheVariants as flight
+use Rattle.dc_base.specs.declared.nodes.Class.TheVariants.{Ctl}
 use Rattle.dc_base.specs.declared.nodes.LinkId.{LinkId}
 use Rattle.dc_base.specs.declared.nodes.Node.{Node}
 use Rattle.dc_base.specs.declared.records.Rec.{Rec}

@@ -6,6 +6,7 @@ use Rattle.dc_base.specs.Records.{item_id}
 use Rattle.dc_base.specs.declared.events.Note.{Note}
 use Rattle.dc_base.specs.declared.events.Note.TheVariants as note
 use Rattle.dc_base.specs.declared.flights.Flight.TheVariants as flight
+use Rattle.dc_base.specs.declared.nodes.Class.TheVariants.{Ctl, Feed}
 use Rattle.dc_base.specs.declared.nodes.KeyName.{KeyName}
 use Rattle.dc_base.specs.declared.nodes.Node.{Node}
 use Rattle.dc_base.specs.declared.nodes.Node.TheVariants.{A, B, M, T}
@@ -26,7 +27,7 @@ use Rattle.node_rules.specs.Held.{held, holding, identities}
 use Rattle.node_rules.specs.Master.{MasterNode, Window, anchor_did, on_anchor, on_anchor_of, without_waiting}
 use Rattle.node_rules.specs.MasterState.{MasterActs}
 use Rattle.node_rules.specs.MasterTaking.{master_adopted}
-use Rattle.node_rules.specs.Parts.{Part, awaits, drops, establishes, hands_over, has_no_anchor, host_in, is_hosted_at, item_key, part_at, renews}
+use Rattle.node_rules.specs.Parts.{Part, awaits, drops, establishes, hands_over, has_no_anchor, host_at, item_key, part_at, renews}
 use Rattle.node_rules.specs.Places.{anchor_at}
 use Rattle.node_rules.specs.Setup.{Setup, setup_of}
 
@@ -78,7 +79,7 @@ window_after (item.Unset id) w = None
 -- the leg host and the window after an item
 abbrev pub with_host_and_window : Plan → MasterNode → Item → MasterNode
 with_host_and_window p m i = record m {
-  hosts = holding (item_id i) (host_in (master_setup m p i) (is_hosted_at M p.sec i)) m.hosts;
+  hosts = holding (item_id i) (host_at M p i) m.hosts;
   windows = holding (item_id i) (window_after i (held (item_id i) m.windows)) m.windows;
 }
 

@@ -8,8 +8,9 @@ use Rattle.dc_base.specs.declared.events.Event.{Event}
 use Rattle.dc_base.specs.declared.events.Event.TheVariants as event
 use Rattle.dc_base.specs.declared.flights.Flight.{Flight}
 use Rattle.dc_base.specs.declared.flights.Flight.TheVariants as flight
+use Rattle.dc_base.specs.declared.nodes.Cell.TheVariants as cell
 use Rattle.dc_base.specs.declared.nodes.Class.{Class}
-use Rattle.dc_base.specs.declared.nodes.LegSet.TheVariants.{Mcg}
+use Rattle.dc_base.specs.declared.nodes.Class.TheVariants.{Air, Ctl, Feed, Tun}
 use Rattle.dc_base.specs.declared.nodes.Node.{Node}
 use Rattle.dc_base.specs.declared.nodes.Node.TheVariants.{A, B, M, T}
 use Rattle.node_rules.specs.Acts.{ProcFault, first_refusal, refused, unexpected}
@@ -136,7 +137,7 @@ control_taken c m from (flight.Told id g count) = (m, quiet)
 abbrev pub master_takes : Choices → MasterNode → Node → Flight → Class → MasterNode × Effects
 master_takes c m from f Ctl = control_taken c m from f
 master_takes c m from f Feed = line_taken m f
-master_takes c m from f Air = data_taken c m (λ a. air_in a Mcg f) (λ h. host_air_in h f) (flight_named f)
+master_takes c m from f Air = data_taken c m (λ a. air_in a cell.Mcg f) (λ h. host_air_in h f) (flight_named f)
 master_takes c m from f Tun = data_taken c m (λ a. tunnel_in c a f) (λ h. host_tunnel_in h f) (flight_named f)
 
 -- the master takes an input

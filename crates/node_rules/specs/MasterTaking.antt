@@ -1,5 +1,6 @@
 -- Which record the master takes from which node.
 use Rattle.std.specs.Prelude.{None, Ok, Option, Result, Some, [], filter, not, ℕ}
+use Rattle.dc_base.specs.Records.{kind_of}
 use Rattle.dc_base.specs.declared.nodes.Node.{Node}
 use Rattle.dc_base.specs.declared.nodes.Node.TheVariants.{A, B, M, T}
 use Rattle.dc_base.specs.declared.nodes.Want.TheVariants as want

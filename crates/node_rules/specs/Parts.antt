@@ -1,13 +1,13 @@
 -- The part that a node has in an item of a plan: what it is to do with the bearer there (TS 37.340, 10.2 to 10.5).
-use Rattle.std.specs.Prelude.{Bool, None, Option, Some, false, if◌then◌else◌, option_and_then, true}
+use Rattle.std.specs.Prelude.{Bool, None, Option, Some, false, if◌then◌else◌, true}
 use Rattle.dc_base.specs.Nodes.{is_same_node}
 use Rattle.dc_base.specs.declared.nodes.KeyName.{KeyName}
 use Rattle.dc_base.specs.declared.nodes.Node.{Node}
 use Rattle.dc_base.specs.declared.records.Item.{Item}
 use Rattle.dc_base.specs.declared.records.Item.TheVariants as item
+use Rattle.dc_base.specs.declared.records.Plan.{Plan}
 use Rattle.node_rules.specs.Host.{Host, new_host}
 use Rattle.node_rules.specs.Places.{anchor_at, is_host_at}
-use Rattle.node_rules.specs.Setup.{Setup}
 
 -- with the anchor: a new bearer begins here; the anchor stays here; it comes from another node; it goes to another node; the
 -- bearer is dropped; or nothing of it is here
@@ -36,15 +36,11 @@ abbrev pub part_at : Node → Option Node → Item → Part
 part_at me sec (item.Set id n first shape threshold policy key old) = set_part me (anchor_at sec shape) old
 part_at me sec (item.Unset id) = drops
 
--- the bearer has a leg at the node, and its anchor elsewhere, once the item is carried out
-abbrev pub is_hosted_at : Node → Option Node → Item → Bool
-is_hosted_at me sec (item.Set id n first shape threshold policy key old) = is_host_at sec shape me
-is_hosted_at me sec (item.Unset id) = false
-
--- the host that a node has from then on
-abbrev pub host_in : Option Setup → Bool → Option Host
-host_in s false = None
-host_in s true = option_and_then new_host s
+-- the host that a node has from an item on: there, if the bearer has a leg at the node and its anchor elsewhere
+abbrev pub host_at : Node → Plan → Item → Option Host
+host_at me p (item.Set id n first shape threshold policy key old) =
+    if is_host_at p.sec shape me then Some (new_host me (anchor_at p.sec shape) p.g id n) else None
+host_at me p (item.Unset id) = None
 
 -- the name of the key that an item sets
 abbrev pub item_key : Item → Option KeyName

@@ -4,6 +4,7 @@ use Rattle.dc_base.specs.Links.{link}
 use Rattle.dc_base.specs.Records.{item_id}
 use Rattle.dc_base.specs.declared.events.Note.TheVariants as note
 use Rattle.dc_base.specs.declared.flights.Flight.TheVariants as flight
+use Rattle.dc_base.specs.declared.nodes.Class.TheVariants.{Ctl}
 use Rattle.dc_base.specs.declared.nodes.Node.{Node}
 use Rattle.dc_base.specs.declared.nodes.Node.TheVariants.{M}
 use Rattle.dc_base.specs.declared.records.Item.{Item}
@@ -17,7 +18,7 @@ use Rattle.node_rules.specs.Choices.{Choices}
 use Rattle.node_rules.specs.Effects.{Effects, in_turn, noted, quiet, told}
 use Rattle.node_rules.specs.Feed.{Fed, freeze_fed, frozen_of}
 use Rattle.node_rules.specs.Held.{held, holding, identities}
-use Rattle.node_rules.specs.Parts.{Part, awaits, drops, establishes, hands_over, has_no_anchor, host_in, is_hosted_at, part_at, renews}
+use Rattle.node_rules.specs.Parts.{Part, awaits, drops, establishes, hands_over, has_no_anchor, host_at, part_at, renews}
 use Rattle.node_rules.specs.SecondState.{SecondActs}
 use Rattle.node_rules.specs.Secondary.{SecondNode, active_in, name_of, on_fed, on_fed_of, within}
 use Rattle.node_rules.specs.Setup.{Setup, setup_of}
@@ -69,9 +70,8 @@ second_part s p setup id has_no_anchor = (s, quiet)
 -- an item is carried out, with the octets of the K_SN
 abbrev pub second_item : List ℕ → Plan → SecondNode → Item → SecondNode × Effects
 second_item key p s i =
-    let setup = setup_of (name_of s) p s.alg key i in
-    second_part (record s { hosts = holding (item_id i) (host_in setup (is_hosted_at (name_of s) p.sec i)) s.hosts })
-        p setup (item_id i) (part_at (name_of s) p.sec i)
+    second_part (record s { hosts = holding (item_id i) (host_at (name_of s) p i) s.hosts })
+        p (setup_of (name_of s) p s.alg key i) (item_id i) (part_at (name_of s) p.sec i)
 
 -- what the procedures have the node do; only the master prepares anchors
 abbrev pub second_act : Choices → List ℕ → SecondNode → Act → SecondNode × Effects

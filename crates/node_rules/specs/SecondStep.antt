@@ -8,8 +8,9 @@ use Rattle.dc_base.specs.declared.events.Event.{Event}
 use Rattle.dc_base.specs.declared.events.Event.TheVariants as event
 use Rattle.dc_base.specs.declared.flights.Flight.{Flight}
 use Rattle.dc_base.specs.declared.flights.Flight.TheVariants as flight
+use Rattle.dc_base.specs.declared.nodes.Cell.TheVariants as cell
 use Rattle.dc_base.specs.declared.nodes.Class.{Class}
-use Rattle.dc_base.specs.declared.nodes.LegSet.TheVariants.{Scg}
+use Rattle.dc_base.specs.declared.nodes.Class.TheVariants.{Air, Ctl, Feed, Tun}
 use Rattle.dc_base.specs.declared.numbers.SnLen.{SnLen}
 use Rattle.dc_base.specs.declared.records.Item.{Item}
 use Rattle.dc_base.specs.declared.records.Item.TheVariants as item
@@ -170,7 +171,7 @@ second_control c s (flight.Told id g count) = (s, quiet)
 abbrev pub second_takes : Choices → SecondNode → Flight → Class → SecondNode × Effects
 second_takes c s f Ctl = second_control c s f
 second_takes c s f Feed = second_line c s f
-second_takes c s f Air = second_data s (λ a. air_in a Scg f) (λ h. host_air_in h f) (flight_named f)
+second_takes c s f Air = second_data s (λ a. air_in a cell.Scg f) (λ h. host_air_in h f) (flight_named f)
 second_takes c s f Tun = second_data s (λ a. tunnel_in c a f) (λ h. host_tunnel_in h f) (flight_named f)
 
 -- a secondary node takes an input

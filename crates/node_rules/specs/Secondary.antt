@@ -5,6 +5,7 @@ use Rattle.dc_base.specs.Links.{link}
 use Rattle.dc_base.specs.declared.events.Note.TheVariants as note
 use Rattle.dc_base.specs.declared.flights.Flight.TheVariants as flight
 use Rattle.dc_base.specs.declared.nodes.Alg.{Alg}
+use Rattle.dc_base.specs.declared.nodes.Class.TheVariants.{Feed}
 use Rattle.dc_base.specs.declared.nodes.Dir.TheVariants.{Ul}
 use Rattle.dc_base.specs.declared.nodes.Node.{Node}
 use Rattle.dc_base.specs.declared.nodes.Node.TheVariants.{M}

@@ -12,6 +12,7 @@ use Rattle.dc_base.specs.declared.flights.Flight.{Flight}
 use Rattle.dc_base.specs.declared.flights.Flight.TheVariants as flight
 use Rattle.dc_base.specs.declared.nodes.Alg.{Alg}
 use Rattle.dc_base.specs.declared.nodes.Class.{Class}
+use Rattle.dc_base.specs.declared.nodes.Class.TheVariants.{Air, Ctl, Feed, Tun}
 use Rattle.dc_base.specs.declared.nodes.Dir.TheVariants.{Dl, Ul}
 use Rattle.dc_base.specs.declared.nodes.Node.{Node}
 use Rattle.dc_base.specs.declared.nodes.Node.TheVariants.{M, T}
@@ -27,7 +28,7 @@ use Rattle.node_rules.specs.Effects.{Effects, accepted, after_effects, in_turn, 
 use Rattle.node_rules.specs.Flights.{Named, flight_named}
 use Rattle.node_rules.specs.Held.{held, holding}
 use Rattle.node_rules.specs.Master.{handed_up}
-use Rattle.node_rules.specs.Setup.{Setup, cell_of, setup_of}
+use Rattle.node_rules.specs.Setup.{Setup, setup_of}
 use Rattle.node_rules.specs.TerminalHalf.{HalfOut, TerminalHalf, has_live_scg, terminal_air_in, terminal_fail, terminal_new, terminal_recover, terminal_renew, terminal_report, terminal_submit}
 
 -- the secondary node of the last plan taken, and the bearers
@@ -146,7 +147,7 @@ half_did t id done =
 
 abbrev pub air_taken_by : TerminalNode → Node → Flight → ℕ → Option TerminalHalf → TerminalNode × Effects
 air_taken_by t from f id None = (t, quiet)
-air_taken_by t from f id (Some h) = half_did t id (terminal_air_in h from (cell_of from) f)
+air_taken_by t from f id (Some h) = half_did t id (terminal_air_in h from f)
 
 abbrev pub air_taken : TerminalNode → Node → Flight → Option Named → TerminalNode × Effects
 air_taken t from f None = (t, quiet)

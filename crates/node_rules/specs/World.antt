@@ -15,7 +15,7 @@ use Rattle.dc_base.specs.declared.nodes.Node.{Node}
 use Rattle.dc_base.specs.declared.nodes.Node.TheVariants.{A, B, M, T}
 use Rattle.pdcp_tx.specs.Sender.{low}
 use Rattle.transcript.specs.Content.{place_taken}
-use Rattle.transcript.specs.Transcript.{Entry}
+use Rattle.transcript.specs.Transcript.{Entry, sends}
 use Rattle.node_rules.specs.Anchor.{Active, AnchorState}
 use Rattle.node_rules.specs.Choices.{Choices, Cmd, Come, Input, Outcome, Send}
 use Rattle.node_rules.specs.Effects.{accepted, quiet, sent, turned_down}
@@ -28,7 +28,6 @@ use Rattle.node_rules.specs.Master.{MasterNode, new_master}
 use Rattle.node_rules.specs.MasterStep.{master_step}
 use Rattle.node_rules.specs.SecondStep.{second_step}
 use Rattle.node_rules.specs.Secondary.{SecondNode, active_in, new_second}
-use Rattle.node_rules.specs.Sending.{sends}
 use Rattle.node_rules.specs.Terminal.{TerminalNode, new_terminal, terminal_step}
 
 pub record World : Type 0 where
