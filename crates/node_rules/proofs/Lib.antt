@@ -1,3 +1,5 @@
 mod Scripts
 mod Rows1
 mod Rows2
+mod Rows3
+mod Rows4

@@ -3,7 +3,7 @@ use Rattle.std.specs.Prelude.{◌≡◌, ◌∷◌, ◌++◌, [], List, ℕ, Boo
 use Rattle.std.proofs.Common.{refl}
 use Rattle.std.specs.Fmt.{digits}
 use Rattle.hex.specs.Hex.{encode_with}
-use Rattle.dc_base.specs.Count.{sn, window, count_for, distance}
+use Rattle.dc_base.specs.Count.{sn, window, modulus, count_for, distance}
 use Rattle.dc_base.specs.Links.{link}
 use Rattle.dc_base.specs.declared.numbers.SnLen.TheVariants.{S12, S18}
 use Rattle.dc_base.specs.declared.nodes.Alg.TheVariants.{Nea2}
@@ -15,6 +15,7 @@ use Rattle.dc_base.specs.declared.nodes.Cell.TheVariants as cell
 use Rattle.dc_base.specs.declared.nodes.Want.TheVariants as want
 use Rattle.dc_base.specs.declared.events.Event.TheVariants as event
 use Rattle.nea2.specs.Keystream.{keystream, counter_block, stream_blocks}
+use Rattle.pdcp_pdu.specs.DataPdu.{data_pdu}
 use Rattle.pdcp_pdu.specs.Pdu.{decoded, read_data, read_report}
 use Rattle.pdcp_pdu.specs.StatusReport.{report_pdu}
 use Rattle.node_rules.proofs.Scripts.{Scripted, one, drain, output, stand_in, first_difference, shape, plain}
@@ -50,7 +51,7 @@ duplicated_output : stand_in (
     ∷ codes "= ok"
     ∷ codes "- send ta.air ack 1 3 0"
     ∷ []) (output (plain 0 (replicate 32 0)) duplicated) ≡ true
-unfolding digits encode_with sn window count_for distance decoded read_data read_report report_pdu keystream counter_block stream_blocks
+unfolding digits encode_with sn window modulus count_for distance data_pdu decoded read_data read_report report_pdu keystream counter_block stream_blocks
 duplicated_output = refl
 
 -- a PDU lost in the tunnel is listed, and sent again
@@ -80,7 +81,7 @@ lost_in_the_tunnel_output : stand_in (
     ∷ codes "- send am.tun gtp - 30ff0005000001800000000002"
     ∷ codes "- freed 1 dl 2"
     ∷ []) (output (plain 0 (replicate 32 0)) lost_in_the_tunnel) ≡ true
-unfolding digits encode_with sn window count_for distance decoded read_data read_report report_pdu keystream counter_block stream_blocks
+unfolding digits encode_with sn window modulus count_for distance data_pdu decoded read_data read_report report_pdu keystream counter_block stream_blocks
 lost_in_the_tunnel_output = refl
 
 -- a copy in the tunnel is not put on the air
@@ -107,7 +108,7 @@ repeated_in_the_tunnel_output : stand_in (
     ∷ codes "= ok"
     ∷ codes "- send at.air pdu 1 3 1 0 8000aa"
     ∷ []) (output (plain 0 (replicate 32 0)) repeated_in_the_tunnel) ≡ true
-unfolding digits encode_with sn window count_for distance decoded read_data read_report report_pdu keystream counter_block stream_blocks
+unfolding digits encode_with sn window modulus count_for distance data_pdu decoded read_data read_report report_pdu keystream counter_block stream_blocks
 repeated_in_the_tunnel_output = refl
 
 -- the SCG fails: the master sends all again on the other leg
@@ -138,5 +139,5 @@ failed_scg_output : stand_in (
     ∷ codes "> recover 1"
     ∷ codes "- done"
     ∷ []) (output (plain 0 (replicate 32 0)) failed_scg) ≡ true
-unfolding digits encode_with sn window count_for distance decoded read_data read_report report_pdu keystream counter_block stream_blocks
+unfolding digits encode_with sn window modulus count_for distance data_pdu decoded read_data read_report report_pdu keystream counter_block stream_blocks
 failed_scg_output = refl

@@ -61,7 +61,7 @@ handed_up x id d ups = map (λ (u : ℕ × List ℕ). note.Up x id d u.0 u.1) up
 abbrev pub anchor_did : MasterNode → ℕ → AnchorState × AnchorOut → MasterNode × Effects
 anchor_did m id done =
     after_effects (record { notes = handed_up M id Ul done.1.ups; sends = done.1.sends })
-        (low_rises (record m { anchors = holding id (Some done.0) m.anchors }) id done.1.low)
+    (low_rises (record m { anchors = holding id (Some done.0) m.anchors }) id done.1.low)
 
 -- a step of the anchor of a bearer, where the master has it
 abbrev pub on_anchor : MasterNode → ℕ → (AnchorState → AnchorState × AnchorOut) → Option AnchorState → MasterNode × Effects

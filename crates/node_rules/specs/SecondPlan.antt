@@ -71,7 +71,7 @@ second_part s p setup id has_no_anchor = (s, quiet)
 abbrev pub second_item : List ℕ → Plan → SecondNode → Item → SecondNode × Effects
 second_item key p s i =
     second_part (record s { hosts = holding (item_id i) (host_at (name_of s) p i) s.hosts })
-        p (setup_of (name_of s) p s.alg key i) (item_id i) (part_at (name_of s) p.sec i)
+    p (setup_of (name_of s) p s.alg key i) (item_id i) (part_at (name_of s) p.sec i)
 
 -- what the procedures have the node do; only the master prepares anchors
 abbrev pub second_act : Choices → List ℕ → SecondNode → Act → SecondNode × Effects

@@ -109,7 +109,6 @@ abbrev pub half_set_if : Choices → TerminalNode → ℕ → Option Setup → T
 half_set_if c t id None = (t, quiet)
 half_set_if c t id (Some s) = half_set c t id s (held id t.halves)
 
-
 -- an item is taken
 abbrev pub item_taken : Choices → List ℕ → Plan → TerminalNode → Item → TerminalNode × Effects
 item_taken c root p t (item.Set id n first shape threshold policy key old) =
