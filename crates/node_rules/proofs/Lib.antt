@@ -1,4 +1,6 @@
+mod OwnInputs
 mod Scripts
+mod Calls
 mod Rows1
 mod Rows2
 mod Rows3

@@ -1,9 +1,7 @@
 -- Which bearer and generation a flight is of.
-use Rattle.std.specs.Prelude.{Bool, List, None, Option, Some, false, if◌then◌else◌, nat_lt, ℕ, ◌+◌}
-use Rattle.dc_base.specs.Count.{window}
+use Rattle.std.specs.Prelude.{List, None, Option, Some, if◌then◌else◌, ℕ}
 use Rattle.dc_base.specs.declared.flights.Flight.{Flight}
 use Rattle.dc_base.specs.declared.flights.Flight.TheVariants as flight
-use Rattle.dc_base.specs.declared.numbers.SnLen.{SnLen}
 use Rattle.nr_u.specs.Frames.{number}
 use Rattle.nr_u.specs.declared.frame.Frame.{Frame}
 use Rattle.nr_u.specs.declared.frame.Frame.TheVariants as frame
@@ -32,10 +30,9 @@ flight_named (flight.End id g) = Some (id, g)
 flight_named (flight.Told id g count) = Some (id, g)
 flight_named (flight.Ctl r) = None
 
--- ---- ageing: the premise on packet lifetime (this product's own)
+-- ---- by which edge of its receiver's windows a flight ages: the premise on packet lifetime (this product's own)
 
--- what a flight would do to the window of its receiver: a data PDU lies in that of the receiving side, a delivery status in
--- that of the sending side
+-- a data PDU by that of the receiving side, a delivery status by that of the sending side, and other flights by none
 pub data Weight : Type 0 where
   data_pdu_of : (id : ℕ) → (g : ℕ) → (count : ℕ) → Weight
   delivery_of : (id : ℕ) → (g : ℕ) → (count : ℕ) → Weight
@@ -70,20 +67,3 @@ weight (flight.Sdu id g payload) = weightless
 weight (flight.End id g) = weightless
 weight (flight.Told id g count) = weightless
 weight (flight.Ctl r) = weightless
-
--- what a node shows of a bearer in a generation, where it has its active entity: the SN length, RX_DELIV and Low
-pub record Edges : Type 0 where
-  pub n : SnLen
-  pub deliv : ℕ
-  pub low : ℕ
-
--- it lies more than a window behind the edge that it counts from, which is there where the receiver has the active entity
-abbrev pub is_behind : ℕ → (Edges → ℕ) → Option Edges → Bool
-is_behind count edge None = false
-is_behind count edge (Some e) = nat_lt (count + window e.n) (edge e)
-
--- the flight is aged for a receiver that shows this
-abbrev pub is_aged_for : (ℕ → ℕ → Option Edges) → Weight → Bool
-is_aged_for edges (data_pdu_of id g count) = is_behind count (λ e. e.deliv) (edges id g)
-is_aged_for edges (delivery_of id g count) = is_behind count (λ e. e.low) (edges id g)
-is_aged_for edges weightless = false

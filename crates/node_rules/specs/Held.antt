@@ -1,7 +1,7 @@
 -- What a node holds of its bearers: by their identities, which ascend.
-use Rattle.std.specs.BTreeMap.{insert_entry, is_at}  -- kept
-use Rattle.std.specs.Map.{lookup, remove_entry}  -- kept
-use Rattle.std.specs.Ordering.{nat_cmp}  -- kept
+use Rattle.std.specs.BTreeMap.{insert_entry, is_at}
+use Rattle.std.specs.Map.{lookup, remove_entry}
+use Rattle.std.specs.Ordering.{nat_cmp}
 use Rattle.std.specs.Prelude.{List, None, Option, Some, map, ℕ}
 
 -- what is held of an identity

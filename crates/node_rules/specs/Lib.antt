@@ -44,5 +44,8 @@ pub mod Secondary
 pub mod SecondPlan
 pub mod SecondStep
 pub mod Terminal
+pub mod NodeRule
+pub mod Readers
 -- the world
 pub mod World
+pub mod Run

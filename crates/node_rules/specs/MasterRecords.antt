@@ -36,12 +36,21 @@ abbrev pub agreed_if : RecKind → MasterProc → Change → First → Node → 
 agreed_if k m c first who wanted true = Ok (goes m c (way first who wanted m.table.sec))
 agreed_if k m c first who wanted false = no_row k
 
+-- both are the same first record
+abbrev pub is_same_first : First → First → Bool
+is_same_first addition addition = true
+is_same_first addition modification = false
+is_same_first addition release = false
+is_same_first modification addition = false
+is_same_first modification modification = true
+is_same_first modification release = false
+is_same_first release addition = false
+is_same_first release modification = false
+is_same_first release release = true
+
 -- this node answers the first record of this kind and generation
 abbrev pub is_answer : First → Node → ℕ → First → Node → ℕ → Bool
-is_answer addition from g addition who h = is_same_node from who && (g == h)
-is_answer modification from g modification who h = is_same_node from who && (g == h)
-is_answer release from g release who h = is_same_node from who && (g == h)
-is_answer _ from g _ who h = false
+is_answer f from g first who h = is_same_first f first && is_same_node from who && (g == h)
 
 -- an acknowledge comes
 abbrev pub agreed : RecKind → First → Node → ℕ → MasterProc → Option Command → Result MasterActs ProcFault
