@@ -12,6 +12,7 @@ use Rattle.dc_base.specs.declared.nodes.Node.{Node}
 use Rattle.dc_base.specs.declared.records.Rec.{Rec}
 use Rattle.node_rules.specs.Choices.{Outcome, Send}
 
+-- the notes and the sends of a step
 pub record Effects : Type 0 where
   pub notes : List Note
   pub sends : List Send

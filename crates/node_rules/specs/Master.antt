@@ -21,6 +21,7 @@ pub record Window : Type 0 where
   pub accepted : ℕ
   pub told : ℕ
 
+-- the master: the ciphering algorithm, the procedures, and by identities the anchors, the leg hosts and the windows
 pub record MasterNode : Type 0 where
   pub alg : Alg
   pub proc : MasterProc
@@ -78,5 +79,6 @@ abbrev pub is_waiting : AnchorState → Bool
 is_waiting (waiting_anchor w) = true
 is_waiting (active_anchor a) = false
 
+-- the master without them
 abbrev pub without_waiting : MasterNode → MasterNode
 without_waiting m = record m { anchors = filter (λ (x : ℕ × AnchorState). not (is_waiting x.1)) m.anchors }

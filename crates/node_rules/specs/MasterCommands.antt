@@ -72,10 +72,33 @@ abbrev pub recovers_row : MasterProc → ℕ → Option Row → MasterActs
 recovers_row m id None = (m, [])
 recovers_row m id (Some r) = recovers_at m id r.anchor
 
--- a command is carried on: a recovery has no plan
+-- the bearer that an event recovers; any other command has a plan
+abbrev pub recovered_by : Event → Option ℕ
+recovered_by (event.Bearer id n first shape threshold policy) = None
+recovered_by (event.Reshape id shape) = None
+recovered_by (event.Remove id) = None
+recovered_by (event.Add node) = None
+recovered_by event.Change = None
+recovered_by event.Release = None
+recovered_by event.RekeySecond = None
+recovered_by (event.RekeyMaster root) = None
+recovered_by (event.Recover id) = Some id
+recovered_by (event.Report node id) = None
+recovered_by (event.Deny node on) = None
+recovered_by (event.Ask node what) = None
+recovered_by event.ScgFail = None
+recovered_by (event.Submit id d payload) = None
+recovered_by (event.Step l i) = None
+recovered_by (event.Lose l i) = None
+recovered_by (event.Again l i) = None
+
+-- a command is carried on: a recovery, or one that has a plan
+abbrev pub command_by : MasterProc → Event → Option ℕ → MasterActs
+command_by m e None = begins_if m false (draft m.table e)
+command_by m e (Some id) = recovers_row m id (row m.table id)
+
 abbrev pub commands : MasterProc → Event → MasterActs
-commands m (event.Recover id) = recovers_row m id (row m.table id)
-commands m e = begins_if m false (draft m.table e)
+commands m e = command_by m e (recovered_by e)
 
 -- unless it is refused
 abbrev pub commands_unless : MasterProc → Event → Option Refusal → Result MasterActs ProcFault

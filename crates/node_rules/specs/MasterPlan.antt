@@ -109,13 +109,29 @@ prepares_part m p i (hands_over to) = (m, quiet)
 prepares_part m p i drops = (m, quiet)
 prepares_part m p i has_no_anchor = (m, quiet)
 
+-- an item of a plan that begins
 abbrev pub prepares_item : Plan → MasterNode → Item → MasterNode × Effects
 prepares_item p m i = prepares_part m p i (part_at M p.sec i)
 
+-- the line says that the command was rejected
+abbrev pub is_rejection : Note → Bool
+is_rejection (note.Begin what) = false
+is_rejection (note.Join node g) = false
+is_rejection (note.Leave node g) = false
+is_rejection (note.Give node id g) = false
+is_rejection (note.Own node id g) = false
+is_rejection (note.Set id g) = false
+is_rejection (note.Unset id) = false
+is_rejection (note.Up node id d count payload) = false
+is_rejection (note.Freed id d count) = false
+is_rejection (note.Confirmed node) = false
+is_rejection (note.Refused node word) = false
+is_rejection note.Done = false
+is_rejection note.Rejected = true
+
 -- a line of the procedures; with `rejected` the waiting anchors go
 abbrev pub says : MasterNode → Note → MasterNode × Effects
-says m note.Rejected = (without_waiting m, noted note.Rejected)
-says m n = (m, noted n)
+says m n = (if is_rejection n then without_waiting m else m, noted n)
 
 -- what the procedures have the master do; a status transfer is taken where it may lead to an adoption
 abbrev pub master_act : Choices → MasterNode → Act → MasterNode × Effects
@@ -145,5 +161,11 @@ on_waiting c m id f (Some a) = let done = f a in adopts_if c id (setup_at a).g d
 
 -- what a record has the master do
 abbrev pub master_did : Choices → MasterNode → Act → MasterNode × Effects
+master_did c m (send to r) = master_act c m (send to r)
+master_did c m (prepare p) = master_act c m (prepare p)
+master_did c m (go p) = master_act c m (go p)
+master_did c m (unlock_all g) = master_act c m (unlock_all g)
+master_did c m (say n) = master_act c m (say n)
+master_did c m (recover_one id) = master_act c m (recover_one id)
+master_did c m (fail_one id g) = master_act c m (fail_one id g)
 master_did c m (pass st) = on_waiting c m st.id (λ a. status_in c a st) (held st.id m.anchors)
-master_did c m a = master_act c m a

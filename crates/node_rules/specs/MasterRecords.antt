@@ -139,6 +139,7 @@ recovered_at A m id terminal second same = recovered_second m id terminal (is_at
 recovered_at B m id terminal second same = recovered_second m id terminal (is_at B second && same)
 recovered_at M m id terminal second same = no_row kind.Recovd
 
+-- in each state: only the recovery of that bearer waits for it
 abbrev pub recovered : Node → ℕ → MasterProc → Option Command → Result MasterActs ProcFault
 recovered from id m None = no_row kind.Recovd
 recovered from id m (Some (asked c first who wanted)) = no_row kind.Recovd

@@ -74,17 +74,29 @@ abbrev pub report_asked : Choices → MasterNode → ℕ → Bool → MasterNode
 report_asked c m id false = turned_down m refusal.NoBearer
 report_asked c m id true = accepted (on_anchor m id (report c) (held id m.anchors))
 
+-- a command is given
+abbrev pub command_taken : Choices → MasterNode → Event → MasterNode × Outcome
+command_taken c m e = commanded c m (master_command (length c.policies) m.proc e)
+
 -- an event that the master takes; any other one does nothing there
 abbrev pub master_event : Choices → MasterNode → Event → MasterNode × Outcome
-master_event c m (event.Submit id d payload) = submitted c m id payload (settled_row m id)
+master_event c m (event.Bearer id n first shape threshold policy) = command_taken c m (event.Bearer id n first shape threshold policy)
+master_event c m (event.Reshape id shape) = command_taken c m (event.Reshape id shape)
+master_event c m (event.Remove id) = command_taken c m (event.Remove id)
+master_event c m (event.Add node) = command_taken c m (event.Add node)
+master_event c m event.Change = command_taken c m event.Change
+master_event c m event.Release = command_taken c m event.Release
+master_event c m event.RekeySecond = command_taken c m event.RekeySecond
+master_event c m (event.RekeyMaster root) = command_taken c m (event.RekeyMaster root)
+master_event c m (event.Recover id) = command_taken c m (event.Recover id)
 master_event c m (event.Report node id) = report_asked c m id (has_bearer m.proc id)
 master_event c m (event.Deny node on) = accepted (m, quiet)
 master_event c m (event.Ask node what) = accepted (m, quiet)
 master_event c m event.ScgFail = accepted (m, quiet)
+master_event c m (event.Submit id d payload) = submitted c m id payload (settled_row m id)
 master_event c m (event.Step l i) = accepted (m, quiet)
 master_event c m (event.Lose l i) = accepted (m, quiet)
 master_event c m (event.Again l i) = accepted (m, quiet)
-master_event c m e = commanded c m (master_command (length c.policies) m.proc e)
 
 -- ---- flights
 

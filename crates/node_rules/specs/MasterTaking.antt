@@ -87,5 +87,6 @@ adopted_here id m (Some (asked c first who wanted)) = (m, [])
 adopted_here id m (Some (gone p w)) = waits_for m (gone p (record w { moving = filter (λ y. not (is_moving id M y)) w.moving }))
 adopted_here id m (Some (recovering i terminal second)) = (m, [])
 
+-- the procedures hear of it
 abbrev pub master_adopted : MasterProc → ℕ → MasterActs
 master_adopted m id = adopted_here id m m.command

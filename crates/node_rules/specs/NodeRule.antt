@@ -7,6 +7,7 @@ use Rattle.node_rules.specs.SecondStep.{second_step}
 use Rattle.node_rules.specs.Secondary.{SecondNode}
 use Rattle.node_rules.specs.Terminal.{TerminalNode, terminal_step}
 
+-- the terminal, the master, or a secondary node
 pub data NodeState : Type 0 where
   terminal_node : (t : TerminalNode) → NodeState
   master_node : (m : MasterNode) → NodeState

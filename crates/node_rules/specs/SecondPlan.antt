@@ -40,6 +40,7 @@ abbrev pub renewed_active : SecondNode → ℕ → ℕ → Setup → Fed → Opt
 renewed_active s id g setup x None = (s, quiet)
 renewed_active s id g setup x (Some a) = owned_there s id g (Some (record x { anchor = active_anchor (renew a setup) }))
 
+-- where the node has it, and the item sets it up
 abbrev pub renewed_there : SecondNode → ℕ → ℕ → Option Setup → Option Fed → SecondNode × Effects
 renewed_there s id g None x = (s, quiet)
 renewed_there s id g (Some setup) None = (s, quiet)
@@ -54,6 +55,7 @@ frozen_active s id g to x (Some a) =
       record { notes = note.Give (name_of s) id g ∷ []; sends = (link (name_of s) M Ctl, flight.Ctl (rec.Snst done.status)) ∷ done.sends },
     )
 
+-- where the node has it
 abbrev pub frozen_there : SecondNode → ℕ → ℕ → Node → Option Fed → SecondNode × Effects
 frozen_there s id g to None = (s, quiet)
 frozen_there s id g to (Some x) = frozen_active s id g to x (active_in x.anchor)

@@ -27,6 +27,7 @@ abbrev pub added : SecondProc → Plan → Bool → SecondActs
 added s p true = (s, send M (rec.Addrej p.g) ∷ [])
 added s p false = (record s { membership = joined }, say (note.Join s.me p.g) ∷ send M (rec.Addack p.g) ∷ go p ∷ [])
 
+-- only a node without a context is added (TS 38.423, 8.3.1)
 abbrev pub addition_asked : SecondProc → Plan → Membership → Result SecondActs ProcFault
 addition_asked s p outside = Ok (added s p s.denies)
 addition_asked s p joined = no_second_row kind.Addreq
@@ -44,6 +45,7 @@ abbrev pub modified : SecondProc → Plan → Bool → SecondActs
 modified s p true = (s, send M (rec.Modrej p.g) ∷ [])
 modified s p false = (s, send M (rec.Modack p.g) ∷ go p ∷ [])
 
+-- only a node that serves the terminal carries a modification out (TS 38.423, 8.3.3)
 abbrev pub modification_asked : SecondProc → Plan → Membership → Result SecondActs ProcFault
 modification_asked s p outside = no_second_row kind.Modreq
 modification_asked s p joined = Ok (modified s p (s.denies && not (is_one_drop p.items)))
@@ -58,6 +60,7 @@ abbrev pub let_off : SecondProc → Plan → Bool → SecondActs
 let_off s p true = (s, send M (rec.Relrej p.g) ∷ [])
 let_off s p false = leaves s p (send M (rec.Relack p.g) ∷ [])
 
+-- only a node that serves the terminal is released (TS 38.423, 8.3.6)
 abbrev pub release_asked : SecondProc → Plan → Membership → Result SecondActs ProcFault
 release_asked s p outside = no_second_row kind.Relreq
 release_asked s p joined = Ok (let_off s p (s.denies && is_none p.sec))

@@ -48,13 +48,42 @@ request want.Release = rec.Relrqd
 -- the conditions under which a command is refused, in their order; what is no command of a secondary node is never refused
 abbrev pub second_refusals : SecondProc → Event → List (Bool × Refusal)
 second_refusals s (event.Ask node what) = (not (is_joined s.membership), refusal.NoSecondary) ∷ (is_some s.want, refusal.Busy) ∷ []
-second_refusals s _ = []
+second_refusals s (event.Bearer id n first shape threshold policy) = []
+second_refusals s (event.Reshape id shape) = []
+second_refusals s (event.Remove id) = []
+second_refusals s (event.Add node) = []
+second_refusals s event.Change = []
+second_refusals s event.Release = []
+second_refusals s event.RekeySecond = []
+second_refusals s (event.RekeyMaster root) = []
+second_refusals s (event.Recover id) = []
+second_refusals s (event.Report node id) = []
+second_refusals s (event.Deny node on) = []
+second_refusals s event.ScgFail = []
+second_refusals s (event.Submit id d payload) = []
+second_refusals s (event.Step l i) = []
+second_refusals s (event.Lose l i) = []
+second_refusals s (event.Again l i) = []
 
 -- a command is carried on
 abbrev pub second_commands : SecondProc → Event → SecondActs
 second_commands s (event.Ask node what) = (record s { want = Some what }, send M (request what) ∷ [])
 second_commands s (event.Deny node on) = (record s { denies = on }, [])
-second_commands s _ = (s, [])
+second_commands s (event.Bearer id n first shape threshold policy) = (s, [])
+second_commands s (event.Reshape id shape) = (s, [])
+second_commands s (event.Remove id) = (s, [])
+second_commands s (event.Add node) = (s, [])
+second_commands s event.Change = (s, [])
+second_commands s event.Release = (s, [])
+second_commands s event.RekeySecond = (s, [])
+second_commands s (event.RekeyMaster root) = (s, [])
+second_commands s (event.Recover id) = (s, [])
+second_commands s (event.Report node id) = (s, [])
+second_commands s event.ScgFail = (s, [])
+second_commands s (event.Submit id d payload) = (s, [])
+second_commands s (event.Step l i) = (s, [])
+second_commands s (event.Lose l i) = (s, [])
+second_commands s (event.Again l i) = (s, [])
 
 -- unless it is refused
 abbrev pub second_commands_unless : SecondProc → Event → Option Refusal → Result SecondActs ProcFault

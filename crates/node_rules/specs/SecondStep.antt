@@ -51,7 +51,20 @@ abbrev pub second_event : Choices → SecondNode → Event → SecondNode × Out
 second_event c s (event.Report node id) = second_report c s id (active_at s id)
 second_event c s (event.Deny node on) = second_commanded c s (second_command s.proc (event.Deny node on))
 second_event c s (event.Ask node what) = second_commanded c s (second_command s.proc (event.Ask node what))
-second_event c s e = accepted (s, quiet)
+second_event c s (event.Bearer id n first shape threshold policy) = accepted (s, quiet)
+second_event c s (event.Reshape id shape) = accepted (s, quiet)
+second_event c s (event.Remove id) = accepted (s, quiet)
+second_event c s (event.Add node) = accepted (s, quiet)
+second_event c s event.Change = accepted (s, quiet)
+second_event c s event.Release = accepted (s, quiet)
+second_event c s event.RekeySecond = accepted (s, quiet)
+second_event c s (event.RekeyMaster root) = accepted (s, quiet)
+second_event c s (event.Recover id) = accepted (s, quiet)
+second_event c s event.ScgFail = accepted (s, quiet)
+second_event c s (event.Submit id d payload) = accepted (s, quiet)
+second_event c s (event.Step l i) = accepted (s, quiet)
+second_event c s (event.Lose l i) = accepted (s, quiet)
+second_event c s (event.Again l i) = accepted (s, quiet)
 
 -- ---- records
 
@@ -62,13 +75,58 @@ plan_in (rec.Modreq plan key) = Some plan
 plan_in (rec.Relreq plan) = Some plan
 plan_in (rec.Chgcnf plan) = Some plan
 plan_in (rec.Relcnf plan) = Some plan
-plan_in _ = None
+plan_in (rec.Reconf plan key) = None
+plan_in (rec.Rcomp g) = None
+plan_in (rec.Scgf failed) = None
+plan_in (rec.Recov id) = None
+plan_in (rec.Recovd id) = None
+plan_in (rec.Addack g) = None
+plan_in (rec.Addrej g) = None
+plan_in (rec.Modack g) = None
+plan_in (rec.Modrej g) = None
+plan_in (rec.Recfg g) = None
+plan_in (rec.Relack g) = None
+plan_in (rec.Relrej g) = None
+plan_in (rec.Uecr g) = None
+plan_in (rec.Snst status) = None
+plan_in (rec.Moved g id) = None
+plan_in (rec.Scgn id g) = None
+plan_in rec.Modrqd = None
+plan_in (rec.Modcnf g) = None
+plan_in (rec.Modref word) = None
+plan_in rec.Chgrqd = None
+plan_in (rec.Chgref word) = None
+plan_in rec.Relrqd = None
 
 -- the octets of the K_SN that it carries
 abbrev pub key_in : Rec → List ℕ
 key_in (rec.Addreq plan key) = key
 key_in (rec.Modreq plan key) = key
-key_in _ = []
+key_in (rec.Reconf plan key) = []
+key_in (rec.Rcomp g) = []
+key_in (rec.Scgf failed) = []
+key_in (rec.Recov id) = []
+key_in (rec.Recovd id) = []
+key_in (rec.Addack g) = []
+key_in (rec.Addrej g) = []
+key_in (rec.Modack g) = []
+key_in (rec.Modrej g) = []
+key_in (rec.Recfg g) = []
+key_in (rec.Relreq plan) = []
+key_in (rec.Relack g) = []
+key_in (rec.Relrej g) = []
+key_in (rec.Uecr g) = []
+key_in (rec.Snst status) = []
+key_in (rec.Moved g id) = []
+key_in (rec.Scgn id g) = []
+key_in rec.Modrqd = []
+key_in (rec.Modcnf g) = []
+key_in (rec.Modref word) = []
+key_in rec.Chgrqd = []
+key_in (rec.Chgcnf plan) = []
+key_in (rec.Chgref word) = []
+key_in rec.Relrqd = []
+key_in (rec.Relcnf plan) = []
 
 -- the active anchor is of a bearer of this SN length and first COUNT
 abbrev pub is_like : SnLen → ℕ → Option Active → Bool
@@ -81,21 +139,56 @@ is_unfit s (item.Set id n first shape threshold policy key None) = false
 is_unfit s (item.Set id n first shape threshold policy key (Some old)) = is_same_node old (name_of s) && not (is_like n first (active_at s id))
 is_unfit s (item.Unset id) = false
 
--- a record that the node's anchors do not fit is taken without effect: a plan with such an item, or the recovery of a bearer
--- that is not active there
+-- none of a plan does
 abbrev pub is_fit_plan : SecondNode → Option Plan → Bool
 is_fit_plan s None = true
 is_fit_plan s (Some p) = not (list_any (is_unfit s) p.items)
 
+-- the bearer that a record orders to recover
+abbrev pub recovery_in : Rec → Option ℕ
+recovery_in (rec.Reconf plan key) = None
+recovery_in (rec.Rcomp g) = None
+recovery_in (rec.Scgf failed) = None
+recovery_in (rec.Recov id) = Some id
+recovery_in (rec.Recovd id) = None
+recovery_in (rec.Addreq plan key) = None
+recovery_in (rec.Addack g) = None
+recovery_in (rec.Addrej g) = None
+recovery_in (rec.Modreq plan key) = None
+recovery_in (rec.Modack g) = None
+recovery_in (rec.Modrej g) = None
+recovery_in (rec.Recfg g) = None
+recovery_in (rec.Relreq plan) = None
+recovery_in (rec.Relack g) = None
+recovery_in (rec.Relrej g) = None
+recovery_in (rec.Uecr g) = None
+recovery_in (rec.Snst status) = None
+recovery_in (rec.Moved g id) = None
+recovery_in (rec.Scgn id g) = None
+recovery_in rec.Modrqd = None
+recovery_in (rec.Modcnf g) = None
+recovery_in (rec.Modref word) = None
+recovery_in rec.Chgrqd = None
+recovery_in (rec.Chgcnf plan) = None
+recovery_in (rec.Chgref word) = None
+recovery_in rec.Relrqd = None
+recovery_in (rec.Relcnf plan) = None
+
+-- it is active at the node
+abbrev pub is_fit_recovery : SecondNode → Option ℕ → Bool
+is_fit_recovery s None = true
+is_fit_recovery s (Some id) = is_some (active_at s id)
+
+-- a record fits the anchors of the node
 abbrev pub is_fit : SecondNode → Rec → Bool
-is_fit s (rec.Recov id) = is_some (active_at s id)
-is_fit s r = is_fit_plan s (plan_in r)
+is_fit s r = is_fit_plan s (plan_in r) && is_fit_recovery s (recovery_in r)
 
 -- a record that has no row in the state is taken without effect
 abbrev pub second_record_taken : Choices → List ℕ → SecondNode → Result SecondActs ProcFault → SecondNode × Effects
 second_record_taken c key s (Ok r) = second_does c key s r
 second_record_taken c key s (Err why) = (s, quiet)
 
+-- a record that does not fit the anchors is taken without effect, whatever the procedures would do
 abbrev pub second_record : Choices → SecondNode → Rec → Bool → SecondNode × Effects
 second_record c s r true = second_record_taken c (key_in r) s (second_take s.proc r)
 second_record c s r false = (s, quiet)

@@ -18,6 +18,7 @@ use Rattle.node_rules.specs.Host.{Host}
 use Rattle.node_rules.specs.Master.{handed_up}
 use Rattle.node_rules.specs.SecondState.{Membership, SecondProc, joined, left, new_second_proc, outside}
 
+-- a secondary node: the ciphering algorithm, the procedures, and by identities the anchors, what is frozen and the leg hosts
 pub record SecondNode : Type 0 where
   pub alg : Alg
   pub proc : SecondProc

@@ -59,6 +59,7 @@ answered_with t a x = (t, record { answer = a; notes = x.notes; sends = x.sends 
 abbrev pub half_submitted : TerminalNode → ℕ → TerminalHalf × Answer × List Send → TerminalNode × Outcome
 half_submitted t id done = answered_with (with_half t id (Some done.0)) done.1 (record { notes = []; sends = done.2 })
 
+-- where the terminal has the bearer
 abbrev pub submitted_there : Choices → TerminalNode → ℕ → List ℕ → Option TerminalHalf → TerminalNode × Outcome
 submitted_there c t id payload None = turned_down t refusal.NoBearer
 submitted_there c t id payload (Some h) = half_submitted t id (terminal_submit c h payload)
@@ -85,7 +86,20 @@ abbrev pub terminal_event : Choices → TerminalNode → Event → TerminalNode 
 terminal_event c t (event.Submit id d payload) = submitted_there c t id payload (held id t.halves)
 terminal_event c t (event.Report node id) = reported_there c t id (held id t.halves)
 terminal_event c t event.ScgFail = scg_fails t t.sec
-terminal_event c t e = accepted (t, quiet)
+terminal_event c t (event.Bearer id n first shape threshold policy) = accepted (t, quiet)
+terminal_event c t (event.Reshape id shape) = accepted (t, quiet)
+terminal_event c t (event.Remove id) = accepted (t, quiet)
+terminal_event c t (event.Add node) = accepted (t, quiet)
+terminal_event c t event.Change = accepted (t, quiet)
+terminal_event c t event.Release = accepted (t, quiet)
+terminal_event c t event.RekeySecond = accepted (t, quiet)
+terminal_event c t (event.RekeyMaster root) = accepted (t, quiet)
+terminal_event c t (event.Recover id) = accepted (t, quiet)
+terminal_event c t (event.Deny node on) = accepted (t, quiet)
+terminal_event c t (event.Ask node what) = accepted (t, quiet)
+terminal_event c t (event.Step l i) = accepted (t, quiet)
+terminal_event c t (event.Lose l i) = accepted (t, quiet)
+terminal_event c t (event.Again l i) = accepted (t, quiet)
 
 -- ---- records
 
@@ -105,6 +119,7 @@ abbrev pub half_set : Choices → TerminalNode → ℕ → Setup → Option Term
 half_set c t id s None = (with_half t id (Some (terminal_new s)), quiet)
 half_set c t id s (Some h) = half_sent t id (terminal_renew c h s)
 
+-- what an item sets up
 abbrev pub half_set_if : Choices → TerminalNode → ℕ → Option Setup → TerminalNode × Effects
 half_set_if c t id None = (t, quiet)
 half_set_if c t id (Some s) = half_set c t id s (held id t.halves)
@@ -130,7 +145,31 @@ recovered_half c t id (Some h) = after_effects (told T M (rec.Recovd id)) (half_
 abbrev pub terminal_record : Choices → TerminalNode → Rec → TerminalNode × Effects
 terminal_record c t (rec.Reconf plan key) = plan_taken c key plan t (not (list_any (λ i. not (is_takable t i)) plan.items))
 terminal_record c t (rec.Recov id) = recovered_half c t id (held id t.halves)
-terminal_record c t r = (t, quiet)
+terminal_record c t (rec.Rcomp g) = (t, quiet)
+terminal_record c t (rec.Scgf failed) = (t, quiet)
+terminal_record c t (rec.Recovd id) = (t, quiet)
+terminal_record c t (rec.Addreq plan key) = (t, quiet)
+terminal_record c t (rec.Addack g) = (t, quiet)
+terminal_record c t (rec.Addrej g) = (t, quiet)
+terminal_record c t (rec.Modreq plan key) = (t, quiet)
+terminal_record c t (rec.Modack g) = (t, quiet)
+terminal_record c t (rec.Modrej g) = (t, quiet)
+terminal_record c t (rec.Recfg g) = (t, quiet)
+terminal_record c t (rec.Relreq plan) = (t, quiet)
+terminal_record c t (rec.Relack g) = (t, quiet)
+terminal_record c t (rec.Relrej g) = (t, quiet)
+terminal_record c t (rec.Uecr g) = (t, quiet)
+terminal_record c t (rec.Snst status) = (t, quiet)
+terminal_record c t (rec.Moved g id) = (t, quiet)
+terminal_record c t (rec.Scgn id g) = (t, quiet)
+terminal_record c t rec.Modrqd = (t, quiet)
+terminal_record c t (rec.Modcnf g) = (t, quiet)
+terminal_record c t (rec.Modref word) = (t, quiet)
+terminal_record c t rec.Chgrqd = (t, quiet)
+terminal_record c t (rec.Chgcnf plan) = (t, quiet)
+terminal_record c t (rec.Chgref word) = (t, quiet)
+terminal_record c t rec.Relrqd = (t, quiet)
+terminal_record c t (rec.Relcnf plan) = (t, quiet)
 
 -- ---- flights
 
@@ -144,10 +183,12 @@ abbrev pub half_did : TerminalNode → ℕ → TerminalHalf × HalfOut → Termi
 half_did t id done =
     (with_half t id (Some done.0), record { notes = handed_up T id Dl done.1.ups ++ uplink_freed id done.1.low; sends = done.1.sends })
 
+-- a flight over the air, where the terminal has its bearer
 abbrev pub air_taken_by : TerminalNode → Node → Flight → ℕ → Option TerminalHalf → TerminalNode × Effects
 air_taken_by t from f id None = (t, quiet)
 air_taken_by t from f id (Some h) = half_did t id (terminal_air_in h from f)
 
+-- a flight over the air is for the bearer that it names
 abbrev pub air_taken : TerminalNode → Node → Flight → Option Named → TerminalNode × Effects
 air_taken t from f None = (t, quiet)
 air_taken t from f (Some (id, g)) = air_taken_by t from f id (held id t.halves)
@@ -155,7 +196,12 @@ air_taken t from f (Some (id, g)) = air_taken_by t from f id (held id t.halves)
 -- a flight comes on a control link: only records do
 abbrev pub terminal_control : Choices → TerminalNode → Flight → TerminalNode × Effects
 terminal_control c t (flight.Ctl r) = terminal_record c t r
-terminal_control c t f = (t, quiet)
+terminal_control c t (flight.Air id g num tag pdu) = (t, quiet)
+terminal_control c t (flight.Ack id g num) = (t, quiet)
+terminal_control c t (flight.Tun tag packet) = (t, quiet)
+terminal_control c t (flight.Sdu id g payload) = (t, quiet)
+terminal_control c t (flight.End id g) = (t, quiet)
+terminal_control c t (flight.Told id g count) = (t, quiet)
 
 -- a flight comes from a node on a link of this class
 abbrev pub terminal_takes : Choices → TerminalNode → Node → Flight → Class → TerminalNode × Effects

@@ -13,6 +13,7 @@ use Rattle.node_rules.specs.Master.{MasterNode, new_master}
 use Rattle.node_rules.specs.Secondary.{SecondNode, new_second}
 use Rattle.node_rules.specs.Terminal.{TerminalNode, new_terminal}
 
+-- the terminal, the master, the secondary nodes, and the flights under way
 pub record World : Type 0 where
   pub terminal : TerminalNode
   pub master : MasterNode
