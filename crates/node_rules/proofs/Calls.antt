@@ -18,6 +18,7 @@ use Rattle.dc_base.specs.declared.events.Event.{Event}
 use Rattle.dc_base.specs.declared.events.Event.TheVariants as event
 use Rattle.nea2.specs.Keystream.{keystream, counter_block, stream_blocks}
 use Rattle.pdcp_pdu.specs.DataPdu.{data_pdu}
+use Rattle.gtpu.specs.Decoded.{decoded as packet_decoded}
 use Rattle.pdcp_pdu.specs.Pdu.{decoded, read_data, read_report}
 use Rattle.pdcp_pdu.specs.StatusReport.{report_pdu}
 use Rattle.std.specs.Prelude.{Option, Some, Ok, Err}
@@ -63,7 +64,7 @@ duplicating = item.Set 1 S12 0 (shape false (Split cell.Mcg) true) 0 0 (record {
 -- it is fresh at the master, opens, and a payload is submitted: two copies are sent
 submitted_on_both : option_map (λ s. (submit two_policies (unlock two_policies (fresh s)).0 (104 ∷ 105 ∷ [])).1.sends) (setup_of M (record { g = 3; sec = Some A; items = duplicating ∷ [] }) Nea0 [] duplicating)
     ≡ Some ((link M T Air, flight.Air 1 3 0 (Some 0) (128 ∷ 0 ∷ 104 ∷ 105 ∷ [])) ∷ (link M A Tun, flight.Tun (Some 0) (52 ∷ 255 ∷ 0 ∷ 16 ∷ 0 ∷ 0 ∷ 1 ∷ 128 ∷ 0 ∷ 0 ∷ 0 ∷ 132 ∷ 2 ∷ 1 ∷ 0 ∷ 0 ∷ 0 ∷ 0 ∷ 0 ∷ 0 ∷ 128 ∷ 0 ∷ 104 ∷ 105 ∷ [])) ∷ [])
-unfolding digits encode_with sn window modulus count_for distance data_pdu decoded read_data read_report report_pdu keystream counter_block stream_blocks
+unfolding digits encode_with sn window modulus count_for distance data_pdu decoded read_data read_report report_pdu keystream counter_block stream_blocks packet_decoded
 submitted_on_both = refl
 
 -- ---- the procedures of the master
@@ -84,7 +85,7 @@ add_rejected = proc_after adding (master_take A adding (rec.Addrej 1))
 procedure_of_addition : shown_acts (master_command 2 at_start (event.Add A)) ∷ shown_acts (master_command 2 adding (event.Add A))
     ∷ shown_acts (master_take A adding (rec.Addrej 1)) ∷ shown_acts (master_take A add_rejected (rec.Addrej 1)) ∷ []
     ≡ (codes "send a addreq 1 a" ∷ []) ∷ (codes "busy" ∷ []) ∷ (codes "say rejected" ∷ []) ∷ (codes "unexpected" ∷ []) ∷ []
-unfolding digits encode_with sn window modulus count_for distance data_pdu decoded read_data read_report report_pdu keystream counter_block stream_blocks
+unfolding digits encode_with sn window modulus count_for distance data_pdu decoded read_data read_report report_pdu keystream counter_block stream_blocks packet_decoded
 procedure_of_addition = refl
 
 -- ---- a forwarding tunnel
@@ -96,7 +97,7 @@ forwarding = record { node = M; target = A; g = 3; id = 1; n = S12; next = 0 }
 -- an SDU with a sequence number, one without, the number of both, and the End Marker
 forwarded_packets : pieces forwarding 385 0 ((Some 0, 170 ∷ []) ∷ (None, 187 ∷ []) ∷ []) ++ closing forwarding 385 2
     ≡ (link M A Tun, flight.Tun None (52 ∷ 255 ∷ 0 ∷ 17 ∷ 0 ∷ 0 ∷ 1 ∷ 129 ∷ 0 ∷ 0 ∷ 0 ∷ 132 ∷ 2 ∷ 1 ∷ 0 ∷ 0 ∷ 0 ∷ 0 ∷ 0 ∷ 192 ∷ 1 ∷ 0 ∷ 0 ∷ 0 ∷ 170 ∷ [])) ∷ (link M A Tun, flight.Tun None (52 ∷ 255 ∷ 0 ∷ 13 ∷ 0 ∷ 0 ∷ 1 ∷ 129 ∷ 0 ∷ 0 ∷ 0 ∷ 132 ∷ 2 ∷ 1 ∷ 0 ∷ 0 ∷ 1 ∷ 0 ∷ 0 ∷ 0 ∷ 187 ∷ [])) ∷ (link M A Tun, flight.Tun None (52 ∷ 255 ∷ 0 ∷ 12 ∷ 0 ∷ 0 ∷ 1 ∷ 129 ∷ 0 ∷ 0 ∷ 0 ∷ 132 ∷ 2 ∷ 0 ∷ 0 ∷ 0 ∷ 2 ∷ 0 ∷ 0 ∷ 0 ∷ [])) ∷ (link M A Tun, flight.Tun None (48 ∷ 254 ∷ 0 ∷ 0 ∷ 0 ∷ 0 ∷ 1 ∷ 129 ∷ [])) ∷ []
-unfolding digits encode_with sn window modulus count_for distance data_pdu decoded read_data read_report report_pdu keystream counter_block stream_blocks
+unfolding digits encode_with sn window modulus count_for distance data_pdu decoded read_data read_report report_pdu keystream counter_block stream_blocks packet_decoded
 forwarded_packets = refl
 
 -- ---- refusals at the edge of a window
@@ -112,7 +113,7 @@ is_aged_at count = option_map (λ s. is_aged_for (with_deliv count s) (weight (f
 
 -- it is once it lies more than a window behind
 aged_by_one : is_aged_at 2048 ∷ is_aged_at 2049 ∷ [] ≡ Some false ∷ Some true ∷ []
-unfolding digits encode_with sn window modulus count_for distance data_pdu decoded read_data read_report report_pdu keystream counter_block stream_blocks
+unfolding digits encode_with sn window modulus count_for distance data_pdu decoded read_data read_report report_pdu keystream counter_block stream_blocks packet_decoded
 aged_by_one = refl
 
 -- a bearer of the table that begins with this COUNT
@@ -126,7 +127,7 @@ refusal_after first accepted told = first_refusal (submit_refusals (beginning_at
 -- a window of submissions and no more; the last COUNT is not used
 full_by_one : refusal_after 0 2047 0 ∷ refusal_after 0 2048 0 ∷ refusal_after 0 2048 1 ∷ refusal_after 4294967294 0 4294967294 ∷ refusal_after 4294967294 1 4294967294 ∷ []
     ≡ None ∷ Some refusal.Full ∷ None ∷ None ∷ Some refusal.Exhausted ∷ []
-unfolding digits encode_with sn window modulus count_for distance data_pdu decoded read_data read_report report_pdu keystream counter_block stream_blocks
+unfolding digits encode_with sn window modulus count_for distance data_pdu decoded read_data read_report report_pdu keystream counter_block stream_blocks packet_decoded
 full_by_one = refl
 
 -- the answer to an event
@@ -148,5 +149,5 @@ with_two_sdus = script_world (plain 0 (replicate 32 0)) (
 -- on a link that keeps its order only the first flight is given
 only_the_first : answer_to with_two_sdus (event.Step (link M A Feed) 0) ∷ answer_to with_two_sdus (event.Step (link M A Feed) 1) ∷ answer_to with_two_sdus (event.Step (link M A Feed) 2) ∷ []
     ≡ answer.Ok ∷ answer.No refusal.NotFirst ∷ answer.No refusal.NoFlight ∷ []
-unfolding digits encode_with sn window modulus count_for distance data_pdu decoded read_data read_report report_pdu keystream counter_block stream_blocks
+unfolding digits encode_with sn window modulus count_for distance data_pdu decoded read_data read_report report_pdu keystream counter_block stream_blocks packet_decoded
 only_the_first = refl

@@ -16,6 +16,7 @@ use Rattle.dc_base.specs.declared.nodes.Want.TheVariants as want
 use Rattle.dc_base.specs.declared.events.Event.TheVariants as event
 use Rattle.nea2.specs.Keystream.{keystream, counter_block, stream_blocks}
 use Rattle.pdcp_pdu.specs.DataPdu.{data_pdu}
+use Rattle.gtpu.specs.Decoded.{decoded as packet_decoded}
 use Rattle.pdcp_pdu.specs.Pdu.{decoded, read_data, read_report}
 use Rattle.pdcp_pdu.specs.StatusReport.{report_pdu}
 use Rattle.node_rules.proofs.Scripts.{Scripted, one, drain, output, stand_in, first_difference, shape, plain}
@@ -51,7 +52,7 @@ duplicated_output : stand_in (
     ∷ codes "= ok"
     ∷ codes "- send ta.air ack 1 3 0"
     ∷ []) (output (plain 0 (replicate 32 0)) duplicated) ≡ true
-unfolding digits encode_with sn window modulus count_for distance data_pdu decoded read_data read_report report_pdu keystream counter_block stream_blocks
+unfolding digits encode_with sn window modulus count_for distance data_pdu decoded read_data read_report report_pdu keystream counter_block stream_blocks packet_decoded
 duplicated_output = refl
 
 -- a PDU lost in the tunnel is listed, and sent again
@@ -81,7 +82,7 @@ lost_in_the_tunnel_output : stand_in (
     ∷ codes "- send am.tun gtp - 30ff0005000001800000000002"
     ∷ codes "- freed 1 dl 2"
     ∷ []) (output (plain 0 (replicate 32 0)) lost_in_the_tunnel) ≡ true
-unfolding digits encode_with sn window modulus count_for distance data_pdu decoded read_data read_report report_pdu keystream counter_block stream_blocks
+unfolding digits encode_with sn window modulus count_for distance data_pdu decoded read_data read_report report_pdu keystream counter_block stream_blocks packet_decoded
 lost_in_the_tunnel_output = refl
 
 -- a copy in the tunnel is not put on the air
@@ -108,7 +109,7 @@ repeated_in_the_tunnel_output : stand_in (
     ∷ codes "= ok"
     ∷ codes "- send at.air pdu 1 3 1 0 8000aa"
     ∷ []) (output (plain 0 (replicate 32 0)) repeated_in_the_tunnel) ≡ true
-unfolding digits encode_with sn window modulus count_for distance data_pdu decoded read_data read_report report_pdu keystream counter_block stream_blocks
+unfolding digits encode_with sn window modulus count_for distance data_pdu decoded read_data read_report report_pdu keystream counter_block stream_blocks packet_decoded
 repeated_in_the_tunnel_output = refl
 
 -- the SCG fails: the master sends all again on the other leg
@@ -139,5 +140,5 @@ failed_scg_output : stand_in (
     ∷ codes "> recover 1"
     ∷ codes "- done"
     ∷ []) (output (plain 0 (replicate 32 0)) failed_scg) ≡ true
-unfolding digits encode_with sn window modulus count_for distance data_pdu decoded read_data read_report report_pdu keystream counter_block stream_blocks
+unfolding digits encode_with sn window modulus count_for distance data_pdu decoded read_data read_report report_pdu keystream counter_block stream_blocks packet_decoded
 failed_scg_output = refl

@@ -16,6 +16,7 @@ use Rattle.dc_base.specs.declared.nodes.Want.TheVariants as want
 use Rattle.dc_base.specs.declared.events.Event.TheVariants as event
 use Rattle.nea2.specs.Keystream.{keystream, counter_block, stream_blocks}
 use Rattle.pdcp_pdu.specs.DataPdu.{data_pdu}
+use Rattle.gtpu.specs.Decoded.{decoded as packet_decoded}
 use Rattle.pdcp_pdu.specs.Pdu.{decoded, read_data, read_report}
 use Rattle.pdcp_pdu.specs.StatusReport.{report_pdu}
 use Rattle.node_rules.proofs.Scripts.{Scripted, one, drain, output, stand_in, first_difference, shape, plain}
@@ -55,7 +56,7 @@ moved_output : stand_in (
     ∷ codes "- freed 1 dl 1"
     ∷ codes "- freed 1 dl 2"
     ∷ []) (output (plain 0 (replicate 32 0)) moved) ≡ true
-unfolding digits encode_with sn window modulus count_for distance data_pdu decoded read_data read_report report_pdu keystream counter_block stream_blocks
+unfolding digits encode_with sn window modulus count_for distance data_pdu decoded read_data read_report report_pdu keystream counter_block stream_blocks packet_decoded
 moved_output = refl
 
 -- a forwarded packet is lost: the command does not end
@@ -84,7 +85,7 @@ not_adopted_output : stand_in (
     ∷ codes "> recover 1"
     ∷ codes "= no busy"
     ∷ []) (output (plain 0 (replicate 32 0)) not_adopted) ≡ true
-unfolding digits encode_with sn window modulus count_for distance data_pdu decoded read_data read_report report_pdu keystream counter_block stream_blocks
+unfolding digits encode_with sn window modulus count_for distance data_pdu decoded read_data read_report report_pdu keystream counter_block stream_blocks packet_decoded
 not_adopted_output = refl
 
 -- an identity is not set up again under the same key
@@ -109,7 +110,7 @@ spent_output : stand_in (
     ∷ codes "> rekey m 0000000000000000000000000000000000000000000000000000000000000000"
     ∷ codes "= no rootused"
     ∷ []) (output (plain 0 (replicate 32 0)) spent) ≡ true
-unfolding digits encode_with sn window modulus count_for distance data_pdu decoded read_data read_report report_pdu keystream counter_block stream_blocks
+unfolding digits encode_with sn window modulus count_for distance data_pdu decoded read_data read_report report_pdu keystream counter_block stream_blocks packet_decoded
 spent_output = refl
 
 -- the last SN Counter of a root is drawn; a new root has its own
@@ -128,7 +129,7 @@ counters_output : stand_in (
     ∷ codes "= no counterspent"
     ∷ codes "- send ma.ctl modreq 3 a 1/12/0/ss/0/0/s1.0/-"
     ∷ []) (output (plain 65535 (replicate 32 0)) counters) ≡ true
-unfolding digits encode_with sn window modulus count_for distance data_pdu decoded read_data read_report report_pdu keystream counter_block stream_blocks
+unfolding digits encode_with sn window modulus count_for distance data_pdu decoded read_data read_report report_pdu keystream counter_block stream_blocks packet_decoded
 counters_output = refl
 
 -- no SN Counter is left
@@ -141,7 +142,7 @@ no_counter_output : stand_in (
     codes "> add a"
     ∷ codes "= no counterspent"
     ∷ []) (output (plain 65536 (replicate 32 0)) no_counter) ≡ true
-unfolding digits encode_with sn window modulus count_for distance data_pdu decoded read_data read_report report_pdu keystream counter_block stream_blocks
+unfolding digits encode_with sn window modulus count_for distance data_pdu decoded read_data read_report report_pdu keystream counter_block stream_blocks packet_decoded
 no_counter_output = refl
 
 -- a node rejects its addition; later it asks for a new key
@@ -169,7 +170,7 @@ denied_output : stand_in (
     ∷ codes "- done"
     ∷ codes "- confirmed a"
     ∷ []) (output (plain 0 (replicate 32 0)) denied) ≡ true
-unfolding digits encode_with sn window modulus count_for distance data_pdu decoded read_data read_report report_pdu keystream counter_block stream_blocks
+unfolding digits encode_with sn window modulus count_for distance data_pdu decoded read_data read_report report_pdu keystream counter_block stream_blocks packet_decoded
 denied_output = refl
 
 -- a release of the secondary node
@@ -197,7 +198,7 @@ released_output : stand_in (
     ∷ codes "- send ma.ctl uecr 4"
     ∷ codes "- done"
     ∷ []) (output (plain 0 (replicate 32 0)) released) ≡ true
-unfolding digits encode_with sn window modulus count_for distance data_pdu decoded read_data read_report report_pdu keystream counter_block stream_blocks
+unfolding digits encode_with sn window modulus count_for distance data_pdu decoded read_data read_report report_pdu keystream counter_block stream_blocks packet_decoded
 released_output = refl
 
 -- a new K_SN
@@ -222,7 +223,7 @@ rekeyed_output : stand_in (
     ∷ codes "- send ma.ctl recfg 3"
     ∷ codes "- done"
     ∷ []) (output (plain 0 (replicate 32 0)) rekeyed) ≡ true
-unfolding digits encode_with sn window modulus count_for distance data_pdu decoded read_data read_report report_pdu keystream counter_block stream_blocks
+unfolding digits encode_with sn window modulus count_for distance data_pdu decoded read_data read_report report_pdu keystream counter_block stream_blocks packet_decoded
 rekeyed_output = refl
 
 -- a change of the secondary node
@@ -257,5 +258,5 @@ changed_output : stand_in (
     ∷ codes "- send ma.ctl uecr 4"
     ∷ codes "- done"
     ∷ []) (output (plain 0 (replicate 32 0)) changed) ≡ true
-unfolding digits encode_with sn window modulus count_for distance data_pdu decoded read_data read_report report_pdu keystream counter_block stream_blocks
+unfolding digits encode_with sn window modulus count_for distance data_pdu decoded read_data read_report report_pdu keystream counter_block stream_blocks packet_decoded
 changed_output = refl

@@ -16,6 +16,7 @@ use Rattle.dc_base.specs.declared.nodes.Want.TheVariants as want
 use Rattle.dc_base.specs.declared.events.Event.TheVariants as event
 use Rattle.nea2.specs.Keystream.{keystream, counter_block, stream_blocks}
 use Rattle.pdcp_pdu.specs.DataPdu.{data_pdu}
+use Rattle.gtpu.specs.Decoded.{decoded as packet_decoded}
 use Rattle.pdcp_pdu.specs.Pdu.{decoded, read_data, read_report}
 use Rattle.pdcp_pdu.specs.StatusReport.{report_pdu}
 use Rattle.node_rules.proofs.Scripts.{Scripted, one, drain, output, stand_in, first_difference, shape, plain}
@@ -117,7 +118,7 @@ order_of_sending_again_output : first_difference 0 (output (plain 0 (replicate 3
     ∷ codes "- send ma.tun gtp 1 34ff000f000001000000008402030000080000008001bb"
     ∷ codes "- send ma.tun gtp 2 34ff000f000001000000008402030000090000008002cc"
     ∷ []) ≡ None
-unfolding digits encode_with sn window modulus count_for distance data_pdu decoded read_data read_report report_pdu keystream counter_block stream_blocks
+unfolding digits encode_with sn window modulus count_for distance data_pdu decoded read_data read_report report_pdu keystream counter_block stream_blocks packet_decoded
 order_of_sending_again_output = refl
 
 -- an SDU on the core's line has the generation of the last plan carried out for its bearer
@@ -263,7 +264,7 @@ path_generation_output : first_difference 0 (output (plain 0 (replicate 32 0)) p
     ∷ codes "= ok"
     ∷ codes "- freed 1 dl 4"
     ∷ []) ≡ None
-unfolding digits encode_with sn window modulus count_for distance data_pdu decoded read_data read_report report_pdu keystream counter_block stream_blocks
+unfolding digits encode_with sn window modulus count_for distance data_pdu decoded read_data read_report report_pdu keystream counter_block stream_blocks packet_decoded
 path_generation_output = refl
 
 -- the line ends before the anchor has heard of the change
@@ -334,7 +335,7 @@ early_end_output : first_difference 0 (output (plain 5 (148 ∷ 218 ∷ 165 ∷ 
     ∷ codes "> step ma.feed 0"
     ∷ codes "= ok"
     ∷ []) ≡ None
-unfolding digits encode_with sn window modulus count_for distance data_pdu decoded read_data read_report report_pdu keystream counter_block stream_blocks
+unfolding digits encode_with sn window modulus count_for distance data_pdu decoded read_data read_report report_pdu keystream counter_block stream_blocks packet_decoded
 early_end_output = refl
 
 -- Low told after an adoption frees nothing until it is greater
@@ -498,7 +499,7 @@ told_not_greater_output : first_difference 0 (output (plain 65520 (174 ∷ 105 �
     ∷ codes "> step am.feed 0"
     ∷ codes "= ok"
     ∷ []) ≡ None
-unfolding digits encode_with sn window modulus count_for distance data_pdu decoded read_data read_report report_pdu keystream counter_block stream_blocks
+unfolding digits encode_with sn window modulus count_for distance data_pdu decoded read_data read_report report_pdu keystream counter_block stream_blocks packet_decoded
 told_not_greater_output = refl
 
 -- a status report in a tunnel counts in the volume of its leg
@@ -595,5 +596,5 @@ control_in_volume_output : first_difference 0 (output (plain 0 (replicate 32 0))
     ∷ codes "= ok"
     ∷ codes "- freed 1 dl 2"
     ∷ []) ≡ None
-unfolding digits encode_with sn window modulus count_for distance data_pdu decoded read_data read_report report_pdu keystream counter_block stream_blocks
+unfolding digits encode_with sn window modulus count_for distance data_pdu decoded read_data read_report report_pdu keystream counter_block stream_blocks packet_decoded
 control_in_volume_output = refl

@@ -16,6 +16,7 @@ use Rattle.dc_base.specs.declared.nodes.Want.TheVariants as want
 use Rattle.dc_base.specs.declared.events.Event.TheVariants as event
 use Rattle.nea2.specs.Keystream.{keystream, counter_block, stream_blocks}
 use Rattle.pdcp_pdu.specs.DataPdu.{data_pdu}
+use Rattle.gtpu.specs.Decoded.{decoded as packet_decoded}
 use Rattle.pdcp_pdu.specs.Pdu.{decoded, read_data, read_report}
 use Rattle.pdcp_pdu.specs.StatusReport.{report_pdu}
 use Rattle.node_rules.proofs.Scripts.{Scripted, one, drain, output, stand_in, first_difference, shape, plain}
@@ -131,7 +132,7 @@ fresh_forwarded_output : first_difference 0 (output (plain 0 (10 ∷ 175 ∷ 9 �
     ∷ codes "> step bm.tun 0"
     ∷ codes "= ok"
     ∷ []) ≡ None
-unfolding digits encode_with sn window modulus count_for distance data_pdu decoded read_data read_report report_pdu keystream counter_block stream_blocks
+unfolding digits encode_with sn window modulus count_for distance data_pdu decoded read_data read_report report_pdu keystream counter_block stream_blocks packet_decoded
 fresh_forwarded_output = refl
 
 -- an adoption with uplink SDUs that were stored
@@ -273,7 +274,7 @@ stored_forwarded_output : first_difference 0 (output (plain 0 (10 ∷ 175 ∷ 9 
     ∷ codes "> step bm.tun 0"
     ∷ codes "= ok"
     ∷ []) ≡ None
-unfolding digits encode_with sn window modulus count_for distance data_pdu decoded read_data read_report report_pdu keystream counter_block stream_blocks
+unfolding digits encode_with sn window modulus count_for distance data_pdu decoded read_data read_report report_pdu keystream counter_block stream_blocks packet_decoded
 stored_forwarded_output = refl
 
 -- the acknowledge of a node that left comes after the end of its change
@@ -338,7 +339,7 @@ late_relack_output : first_difference 0 (output (plain 0 (189 ∷ 137 ∷ 245 �
     ∷ codes "> step mb.ctl 0"
     ∷ codes "= ok"
     ∷ []) ≡ None
-unfolding digits encode_with sn window modulus count_for distance data_pdu decoded read_data read_report report_pdu keystream counter_block stream_blocks
+unfolding digits encode_with sn window modulus count_for distance data_pdu decoded read_data read_report report_pdu keystream counter_block stream_blocks packet_decoded
 late_relack_output = refl
 
 -- a change that a node asked for is rejected by the other one
@@ -436,7 +437,7 @@ rejected_change_output : first_difference 0 (output (plain 5 (228 ∷ 222 ∷ 19
     ∷ codes "= ok"
     ∷ codes "- refused a rejected"
     ∷ []) ≡ None
-unfolding digits encode_with sn window modulus count_for distance data_pdu decoded read_data read_report report_pdu keystream counter_block stream_blocks
+unfolding digits encode_with sn window modulus count_for distance data_pdu decoded read_data read_report report_pdu keystream counter_block stream_blocks packet_decoded
 rejected_change_output = refl
 
 -- two requests for a release wait for the end of a command
@@ -532,7 +533,7 @@ two_releases_output : first_difference 0 (output (plain 0 (replicate 32 0)) two_
     ∷ codes "> step mb.ctl 0"
     ∷ codes "= ok"
     ∷ []) ≡ None
-unfolding digits encode_with sn window modulus count_for distance data_pdu decoded read_data read_report report_pdu keystream counter_block stream_blocks
+unfolding digits encode_with sn window modulus count_for distance data_pdu decoded read_data read_report report_pdu keystream counter_block stream_blocks packet_decoded
 two_releases_output = refl
 
 -- an SDU of an earlier establishment is not forwarded
@@ -728,5 +729,5 @@ older_sdu_output : first_difference 0 (output (plain 0 (replicate 32 0)) older_s
     ∷ codes "> step ab.tun 0"
     ∷ codes "= ok"
     ∷ []) ≡ None
-unfolding digits encode_with sn window modulus count_for distance data_pdu decoded read_data read_report report_pdu keystream counter_block stream_blocks
+unfolding digits encode_with sn window modulus count_for distance data_pdu decoded read_data read_report report_pdu keystream counter_block stream_blocks packet_decoded
 older_sdu_output = refl

@@ -8,7 +8,7 @@ use Rattle.dc_base.specs.declared.nodes.Node.{Node}
 use Rattle.dc_base.specs.declared.nodes.Node.TheVariants.{T}
 use Rattle.nr_u.specs.Outgoing.{Outgoing, with_sent}
 use Rattle.pdcp_tx.specs.Sender.{Sender}
-use Rattle.pdcp_tx.specs.Sending.{taken, holding, numbered}
+use Rattle.pdcp_tx.specs.Sending.{take_sdu, hold_sdu, give_numbers}
 use Rattle.pdcp_tx.specs.declared.tx.TxErr.{TxErr}
 use Rattle.dc_base.specs.Links.{link}
 use Rattle.node_rules.specs.Anchor.{Active, AnchorOut, AnchorState, active_anchor, sending, silent, waiting_anchor}
@@ -74,12 +74,12 @@ with_tx a tx = record a { entity = record a.entity { tx = tx } }
 -- a submission that was numbered is sent; one for which there is no room is held
 abbrev pub submit_as : Choices → Active → List ℕ → Result (Sender × ℕ) TxErr → Active × List Send
 submit_as c a sdu (Ok (tx, count)) = anchor_sends c (with_tx a tx) (count ∷ [])
-submit_as c a sdu (Err e) = (with_tx a (holding a.entity.tx sdu), [])
+submit_as c a sdu (Err e) = (with_tx a (hold_sdu a.entity.tx sdu), [])
 
 -- an open anchor numbers and sends a submission, a closed one holds it
 abbrev pub submit_at : Bool → Choices → Active → List ℕ → Active × List Send
-submit_at true c a sdu = submit_as c a sdu (taken a.entity.tx sdu)
-submit_at false c a sdu = (with_tx a (holding a.entity.tx sdu), [])
+submit_at true c a sdu = submit_as c a sdu (take_sdu a.entity.tx sdu)
+submit_at false c a sdu = (with_tx a (hold_sdu a.entity.tx sdu), [])
 
 -- an SDU is submitted (TS 38.323, 5.2.1)
 abbrev pub submit : Choices → AnchorState → List ℕ → AnchorState × AnchorOut
@@ -97,7 +97,7 @@ with_numbers c a (Err e) = (a, [])
 abbrev pub opens : Choices → Active → Active × List Send
 opens c a =
     let again = anchor_recovers c (record a { is_open = true }) in
-    let first = with_numbers c again.0 (numbered again.0.entity.tx) in
+    let first = with_numbers c again.0 (give_numbers again.0.entity.tx) in
     (first.0, again.1 ++ first.1)
 
 -- by whether it is to open

@@ -1,4 +1,5 @@
--- What the node holds that has a leg of a bearer and not its PDCP entity: the leg's host (TS 38.425, 5.1; TS 38.401, 8.9).
+-- What the node holds that has a leg of a bearer and not its PDCP entity: the leg's host, the
+-- corresponding node of TS 38.425.
 use Rattle.std.specs.Prelude.{ℕ, List, []}
 use Rattle.dc_base.specs.declared.nodes.Node.{Node}
 use Rattle.dc_base.specs.declared.numbers.SnLen.{SnLen}

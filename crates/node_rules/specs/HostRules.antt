@@ -1,5 +1,5 @@
 -- What a leg's host does: downlink PDUs go from the tunnel to the leg, uplink PDUs from the leg to the tunnel, and each
--- confirm of the leg gives a delivery status (TS 38.425, 5.4; TS 38.401, 8.9).
+-- confirm of the leg gives a delivery status (TS 38.425, 5.4).
 use Rattle.std.specs.Prelude.{ℕ, ◌==◌, ◌&&◌, ◌++◌, if◌then◌else◌, Bool, List, [], ◌∷◌, length, slice_get, Option, Some, None, Result, Ok, Err}
 use Rattle.dc_base.specs.declared.flights.Flight.{Flight}
 use Rattle.dc_base.specs.declared.flights.Flight.TheVariants as flight

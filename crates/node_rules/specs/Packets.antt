@@ -1,19 +1,21 @@
 -- What a packet in a tunnel says to the node that takes it (TS 29.281, 5; TS 38.425, 5.5), and how each is written.
-use Rattle.std.specs.Prelude.{ℕ, zero, suc, Bool, true, false, List, [], ◌∷◌, Option, Some, None}
+use Rattle.std.specs.Prelude.{ℕ, zero, suc, Bool, true, false, List, [], ◌∷◌, Option, Some, None, Result, Ok, Err}
 use Rattle.std.specs.Option.{option_map}
 use Rattle.dc_base.specs.Tunnel.{teid, teid_gen, teid_id, teid_kind}
 use Rattle.dc_base.specs.declared.nodes.Dir.{Dir}
 use Rattle.dc_base.specs.declared.nodes.Dir.TheVariants.{Ul, Dl}
 use Rattle.forward.specs.Load.{Load, Piece, Total, Nothing, sn_of}
 use Rattle.gtpu.specs.Content.{Content}
+use Rattle.gtpu.specs.Decoded.{decoded}
 use Rattle.gtpu.specs.Spelling.{spelling}
+use Rattle.gtpu.specs.declared.faults.GtpErr.{GtpErr}
 use Rattle.gtpu.specs.declared.packet.GtpKind.{GtpKind}
 use Rattle.gtpu.specs.declared.packet.GtpKind.TheVariants.{GPdu, EndMarker, EchoRequest, EchoResponse, ErrorIndication}
 use Rattle.gtpu.specs.declared.packet.PduNumber.{PduNumber}
 use Rattle.nr_u.specs.Frames.{written}
 use Rattle.nr_u.specs.declared.frame.Frame.{Frame}
 use Rattle.nr_u.specs.declared.frame.Frame.TheVariants.{User, Status}
-use Rattle.node_rules.specs.Stub.{content_of, frame_of}
+use Rattle.node_rules.specs.Stub.{frame_of}
 
 -- a packet of a bearer and generation
 pub data Packet : Type 0 where
@@ -69,13 +71,13 @@ of_message p EchoResponse = nothing
 of_message p ErrorIndication = nothing
 
 -- octets that are no packet say nothing
-abbrev pub said_by : Option Content → Packet
-said_by None = nothing
-said_by (Some p) = of_message p p.kind
+abbrev pub said_by : Result Content GtpErr → Packet
+said_by (Err e) = nothing
+said_by (Ok p) = of_message p p.kind
 
 -- what the octets of a packet say
 abbrev pub packet_of : List ℕ → Packet
-packet_of octets = said_by (content_of octets)
+packet_of octets = said_by (decoded octets)
 
 -- ---- as they are written
 

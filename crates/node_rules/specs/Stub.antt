@@ -1,73 +1,40 @@
--- How octets are read as a packet and as a frame, in the one way in which they are written here. It stands until gtpu and
--- nr_u have total functions for it.
-use Rattle.std.specs.Prelude.{ℕ, ◌+◌, ◌-◌, ◌*◌, ◌/◌, ◌==◌, nat_lt, Bool, true, false, List, [], ◌∷◌, take, drop, slice_index, Option, Some, None}
-use Rattle.gtpu.specs.Content.{Content, kind_of}
-use Rattle.gtpu.specs.declared.packet.GtpKind.{GtpKind}
-use Rattle.gtpu.specs.declared.packet.PduNumber.{PduNumber}
-use Rattle.gtpu.specs.declared.packet.PduNumber.TheVariants.{Short, Long}
+-- What octets are read as in a container: the frame that they are (TS 38.425, 5.5). It stands until nr_u has this function.
+use Rattle.std.specs.Prelude.{ℕ, zero, suc, ◌/◌, ◌^◌, ◌==◌, if◌then◌else◌, List, [], ◌∷◌, drop, Option, Some, None}
+use Rattle.nr_u.specs.Faults.{number_of, highest_len, fault_of}
+use Rattle.nr_u.specs.Frames.{is_set}
 use Rattle.nr_u.specs.declared.frame.Frame.{Frame}
 use Rattle.nr_u.specs.declared.frame.Frame.TheVariants.{User, Status}
+use Rattle.nr_u.specs.declared.frame.NruErr.{NruErr}
 use Rattle.nr_u.specs.declared.frame.Range.{Range}
 
--- a number of two octets
-abbrev pub number2 : List ℕ → ℕ
-number2 (a ∷ b ∷ rest) = 256 * a + b
-number2 _ = 0
+-- the number that the first three octets show
+abbrev pub shown_number : List ℕ → ℕ
+shown_number (a ∷ b ∷ c ∷ rest) = number_of a b c
+shown_number octets = 0
 
--- a number of three octets
-abbrev pub number3 : List ℕ → ℕ
-number3 (a ∷ b ∷ c ∷ rest) = 65536 * a + 256 * b + c
-number3 _ = 0
+-- the first ranges, so many, that octets show
+abbrev pub shown_ranges : ℕ → List ℕ → List Range
+shown_ranges zero octets = []
+shown_ranges (suc k) (a ∷ b ∷ c ∷ d ∷ e ∷ f ∷ rest) = record { from = number_of a b c; to = number_of d e f } ∷ shown_ranges k rest
+shown_ranges (suc k) octets = []
 
--- a number of four octets
-abbrev pub number4 : List ℕ → ℕ
-number4 octets = 65536 * number2 octets + number2 (drop 2 octets)
+-- the delivery status that octets from octet 1 on show behind this octet 0
+abbrev pub shown_status : ℕ → List ℕ → Frame
+shown_status first [] = Status None []
+shown_status first (count ∷ rest) =
+    Status (if is_set first 0 then Some (shown_number rest) else None) (shown_ranges count (drop (highest_len first) rest))
 
--- ranges of numbers
-abbrev pub ranges : List ℕ → List Range
-ranges (a ∷ b ∷ c ∷ d ∷ e ∷ f ∷ rest) = record { from = 65536 * a + 256 * b + c; to = 65536 * d + 256 * e + f } ∷ ranges rest
-ranges _ = []
+-- the frame that octets show
+abbrev pub shown_frame : List ℕ → Frame
+shown_frame [] = Status None []
+shown_frame (first ∷ rest) =
+    if first / 2 ^ 4 == 0 then User (shown_number rest) (is_set first 0) (is_set first 1) else shown_status first rest
 
--- a delivery status
-abbrev pub status_of : Bool → List ℕ → Frame
-status_of false frame = Status None (ranges (take (6 * slice_index frame 0) (drop 1 frame)))
-status_of true frame = Status (Some (number3 (drop 1 frame))) (ranges (take (6 * slice_index frame 0) (drop 4 frame)))
+-- the frame, unless a check fails
+abbrev pub unless_fault : Frame → Option NruErr → Option Frame
+unless_fault f None = Some f
+unless_fault f (Some e) = None
 
--- by its type
-abbrev pub frame_by : Bool → ℕ → List ℕ → Frame
-frame_by true flags frame = User (number3 frame) (flags - 2 * (flags / 2) == 1) (flags / 2 == 1)
-frame_by false flags frame = status_of (flags == 17) frame
-
--- a frame
+-- what octets are read as; None where they are no frame
 abbrev pub frame_of : List ℕ → Option Frame
-frame_of [] = None
-frame_of (flags ∷ frame) = Some (frame_by (nat_lt flags 16) flags frame)
-
--- what stands behind a container
-abbrev pub number_at : ℕ → List ℕ → Option PduNumber × List ℕ
-number_at type rest =
-    elim (type == 0xC0) [
-      | true ↦ (Some (Short (number2 (drop 1 rest))), drop 4 rest)
-      | false ↦ elim (type == 0x82) [ true ↦ (Some (Long (number3 (drop 1 rest))), drop 8 rest) | false ↦ (None, rest) ]
-    ]
-
--- a packet with a container
-abbrev pub extended : GtpKind → ℕ → List ℕ → Content
-extended kind teid octets =
-    let len = 4 * slice_index octets 12 - 2 in
-    let behind = number_at (slice_index octets (13 + len)) (drop (14 + len) octets) in
-    record { kind = kind; teid = teid; container = Some (take len (drop 13 octets)); number = behind.0; body = behind.1 }
-
--- by its first octet
-abbrev pub content_by : Bool → GtpKind → List ℕ → Content
-content_by true kind octets = extended kind (number4 (drop 4 octets)) octets
-content_by false kind octets = record { kind = kind; teid = number4 (drop 4 octets); container = None; number = None; body = drop 8 octets }
-
--- of a message type
-abbrev pub content_with : List ℕ → Option GtpKind → Option Content
-content_with octets None = None
-content_with octets (Some kind) = Some (content_by (slice_index octets 0 == 0x34) kind octets)
-
--- a packet
-abbrev pub content_of : List ℕ → Option Content
-content_of octets = content_with octets (kind_of (slice_index octets 1))
+frame_of octets = unless_fault (shown_frame octets) (fault_of octets)

@@ -14,7 +14,7 @@ use Rattle.dc_base.specs.declared.nodes.Node.TheVariants.{T}
 use Rattle.pdcp_pdu.specs.Pdu.{Content, decoded}
 use Rattle.pdcp_pdu.specs.declared.pdu.PduErr.{PduErr}
 use Rattle.pdcp_tx.specs.Sender.{Sender}
-use Rattle.pdcp_tx.specs.Sending.{taken}
+use Rattle.pdcp_tx.specs.Sending.{take_sdu}
 use Rattle.pdcp_tx.specs.declared.tx.TxErr.{TxErr}
 use Rattle.pdcp_tx.specs.declared.tx.TxErr.TheVariants as unable
 use Rattle.split_leg.specs.Legs.{leg_at, with_ack, with_leg}
@@ -64,7 +64,7 @@ submit_as c h (Err unable.Memory) = (h, answer.No refusal.Full, [])
 
 -- an SDU is submitted (TS 38.323, 5.2.1)
 abbrev pub terminal_submit : Choices → TerminalHalf → List ℕ → TerminalHalf × Answer × List Send
-terminal_submit c h sdu = submit_as c h (taken h.tx sdu)
+terminal_submit c h sdu = submit_as c h (take_sdu h.tx sdu)
 
 -- all that is kept is sent again (TS 38.323, 5.4.1 and 5.5)
 abbrev pub terminal_recover : Choices → TerminalHalf → TerminalHalf × List Send
