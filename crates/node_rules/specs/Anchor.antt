@@ -2,7 +2,7 @@
 use Rattle.std.specs.Prelude.{ℕ, Bool, false, List, [], Option, Some, None}
 use Rattle.dc_base.specs.declared.numbers.SnLen.{SnLen}
 use Rattle.dc_base.specs.declared.records.StatusTransfer.{StatusTransfer}
-use Rattle.nr_u.specs.Outgoing.{Outgoing}
+use Rattle.nr_u.specs.Tunnel.Outgoing.{Outgoing}
 use Rattle.pdcp_pdu.specs.Pdu.{Content}
 use Rattle.pdcp_tx.specs.Sender.{low}
 use Rattle.node_rules.specs.Choices.{Send}

@@ -6,8 +6,8 @@ use Rattle.dc_base.specs.declared.nodes.Cell.{Cell}
 use Rattle.dc_base.specs.declared.nodes.Class.TheVariants.{Air}
 use Rattle.dc_base.specs.declared.nodes.Node.TheVariants.{T}
 use Rattle.nr_u.specs.declared.frame.Frame.{Frame}
-use Rattle.nr_u.specs.Incoming.{contains}
-use Rattle.nr_u.specs.Verdicts.{after_frame, confirmed_of, again_of}
+use Rattle.nr_u.specs.Tunnel.Incoming.{contains}
+use Rattle.nr_u.specs.Tunnel.Verdicts.{after_frame, confirmed_of, again_of}
 use Rattle.pdcp_pdu.specs.Pdu.{Content, decoded}
 use Rattle.pdcp_pdu.specs.declared.pdu.PduErr.{PduErr}
 use Rattle.pdcp_tx.specs.Sender.{low}

@@ -6,7 +6,7 @@ use Rattle.dc_base.specs.declared.flights.Flight.TheVariants as flight
 use Rattle.dc_base.specs.declared.nodes.Class.TheVariants.{Air, Tun}
 use Rattle.dc_base.specs.declared.nodes.Node.{Node}
 use Rattle.dc_base.specs.declared.nodes.Node.TheVariants.{T}
-use Rattle.nr_u.specs.Outgoing.{Outgoing, with_sent}
+use Rattle.nr_u.specs.Tunnel.Outgoing.{Outgoing, with_sent}
 use Rattle.pdcp_tx.specs.Sender.{Sender}
 use Rattle.pdcp_tx.specs.Sending.{take_sdu, hold_sdu, give_numbers}
 use Rattle.pdcp_tx.specs.declared.tx.TxErr.{TxErr}

@@ -3,7 +3,7 @@
 use Rattle.std.specs.Prelude.{ℕ, List, []}
 use Rattle.dc_base.specs.declared.nodes.Node.{Node}
 use Rattle.dc_base.specs.declared.numbers.SnLen.{SnLen}
-use Rattle.nr_u.specs.Incoming.{Incoming}
+use Rattle.nr_u.specs.Tunnel.Incoming.{Incoming}
 
 pub record Host : Type 0 where
   pub node : Node

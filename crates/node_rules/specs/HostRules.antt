@@ -5,8 +5,8 @@ use Rattle.dc_base.specs.declared.flights.Flight.{Flight}
 use Rattle.dc_base.specs.declared.flights.Flight.TheVariants as flight
 use Rattle.dc_base.specs.declared.nodes.Class.TheVariants.{Air, Tun}
 use Rattle.dc_base.specs.declared.nodes.Node.TheVariants.{T}
-use Rattle.nr_u.specs.Delivery.{status_of, tag_of}
-use Rattle.nr_u.specs.Incoming.{has, with_ack, with_arrival}
+use Rattle.nr_u.specs.Tunnel.Delivery.{status_of, tag_of}
+use Rattle.nr_u.specs.Tunnel.Incoming.{has, with_ack, with_arrival}
 use Rattle.pdcp_pdu.specs.Pdu.{Content, sdu, report, decoded}
 use Rattle.pdcp_pdu.specs.declared.pdu.PduErr.{PduErr}
 use Rattle.dc_base.specs.Links.{link}

@@ -4,7 +4,6 @@
 pub mod Choices
 pub mod Lines
 -- bearers at a node
-pub mod Stub
 pub mod Setup
 pub mod Entity
 pub mod Sending

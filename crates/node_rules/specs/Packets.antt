@@ -13,9 +13,10 @@ use Rattle.gtpu.specs.declared.packet.GtpKind.{GtpKind}
 use Rattle.gtpu.specs.declared.packet.GtpKind.TheVariants.{GPdu, EndMarker, EchoRequest, EchoResponse, ErrorIndication}
 use Rattle.gtpu.specs.declared.packet.PduNumber.{PduNumber}
 use Rattle.nr_u.specs.Frames.{written}
+use Rattle.nr_u.specs.Reading.{decoded as frame_in}
 use Rattle.nr_u.specs.declared.frame.Frame.{Frame}
 use Rattle.nr_u.specs.declared.frame.Frame.TheVariants.{User, Status}
-use Rattle.node_rules.specs.Stub.{frame_of}
+use Rattle.nr_u.specs.declared.frame.NruErr.{NruErr}
 
 -- a packet of a bearer and generation
 pub data Packet : Type 0 where
@@ -26,16 +27,16 @@ pub data Packet : Type 0 where
   nothing : Packet  -- any other packet
 
 -- what a frame says in a packet of a bearer's own traffic; a user data frame without user data says nothing
-abbrev pub with_frame : ℕ → ℕ → List ℕ → Option Frame → Packet
-with_frame id g body None = nothing
-with_frame id g body (Some (User number true repeat)) = pdu_down id g number repeat body
-with_frame id g body (Some (User number false repeat)) = nothing
-with_frame id g body (Some (Status highest lost)) = delivery id g (Status highest lost)
+abbrev pub with_frame : ℕ → ℕ → List ℕ → Result Frame NruErr → Packet
+with_frame id g body (Err e) = nothing
+with_frame id g body (Ok (User number true repeat)) = pdu_down id g number repeat body
+with_frame id g body (Ok (User number false repeat)) = nothing
+with_frame id g body (Ok (Status highest lost)) = delivery id g (Status highest lost)
 
 -- a packet of a bearer's own traffic
 abbrev pub with_container : ℕ → ℕ → List ℕ → Option (List ℕ) → Packet
 with_container id g body None = pdu_up id g body
-with_container id g body (Some octets) = with_frame id g body (frame_of octets)
+with_container id g body (Some octets) = with_frame id g body (frame_in octets)
 
 -- the number of all stands without a PDCP SN and without user data
 abbrev pub total_in : ℕ → Option PduNumber → List ℕ → Load
@@ -44,16 +45,16 @@ total_in number None (octet ∷ body) = Nothing
 total_in number (Some n) body = Nothing
 
 -- what a frame says in a forwarding tunnel
-abbrev pub load_with : Content → Option Frame → Load
-load_with p None = Nothing
-load_with p (Some (User number true repeat)) = Piece number (option_map sn_of p.number, p.body)
-load_with p (Some (User number false repeat)) = total_in number p.number p.body
-load_with p (Some (Status highest lost)) = Nothing
+abbrev pub load_with : Content → Result Frame NruErr → Load
+load_with p (Err e) = Nothing
+load_with p (Ok (User number true repeat)) = Piece number (option_map sn_of p.number, p.body)
+load_with p (Ok (User number false repeat)) = total_in number p.number p.body
+load_with p (Ok (Status highest lost)) = Nothing
 
 -- what a packet of a forwarding tunnel carries
 abbrev pub load_in : Content → Option (List ℕ) → Load
 load_in p None = Nothing
-load_in p (Some octets) = load_with p (frame_of octets)
+load_in p (Some octets) = load_with p (frame_in octets)
 
 -- a G-PDU, by the kind of its TEID: 0 for the bearer's own traffic, 1 for downlink and 2 for uplink forwarding
 abbrev pub of_kind : Content → ℕ → Packet
