@@ -1,0 +1,7 @@
+mod OwnInputs
+mod Scripts
+mod Calls
+mod Rows1
+mod Rows2
+mod Rows3
+mod Rows4

@@ -1,0 +1,60 @@
+-- What comes of a step of a node besides its new state: notes and sends, each in the order in which they happen.
+use Rattle.std.specs.Prelude.{List, None, Option, Some, [], ◌++◌, ◌∷◌}
+use Rattle.dc_base.specs.Links.{link}
+use Rattle.dc_base.specs.declared.answers.Answer.TheVariants as answer
+use Rattle.dc_base.specs.declared.answers.Refusal.{Refusal}
+use Rattle.dc_base.specs.declared.events.Note.{Note}
+use Rattle.dc_base.specs.declared.flights.Flight.{Flight}
+use Rattle.dc_base.specs.declared.flights.Flight.TheVariants as flight
+use Rattle.dc_base.specs.declared.nodes.Class.TheVariants.{Ctl}
+use Rattle.dc_base.specs.declared.nodes.LinkId.{LinkId}
+use Rattle.dc_base.specs.declared.nodes.Node.{Node}
+use Rattle.dc_base.specs.declared.records.Rec.{Rec}
+use Rattle.node_rules.specs.Choices.{Outcome, Send}
+
+-- the notes and the sends of a step
+pub record Effects : Type 0 where
+  pub notes : List Note
+  pub sends : List Send
+
+-- nothing comes of it
+abbrev pub quiet : Effects
+quiet = record { notes = []; sends = [] }
+
+-- a note
+abbrev pub noted : Note → Effects
+noted n = record { notes = n ∷ []; sends = [] }
+
+-- a flight that is put on a link
+abbrev pub sent : LinkId → Flight → Effects
+sent l f = record { notes = []; sends = (l, f) ∷ [] }
+
+-- a record for another node
+abbrev pub told : Node → Node → Rec → Effects
+told from to r = sent (link from to Ctl) (flight.Ctl r)
+
+-- first the one and then the other
+abbrev pub both : Effects → Effects → Effects
+both x y = record { notes = x.notes ++ y.notes; sends = x.sends ++ y.sends }
+
+-- what came before a step, with what comes of it
+abbrev pub after_effects : {S : Type 0} → Effects → S × Effects → S × Effects
+after_effects x done = (done.0, both x done.1)
+
+-- a step for each of these in turn
+abbrev pub in_turn : {S X : Type 0} → (S → X → S × Effects) → S → List X → S × Effects
+in_turn f s [] = (s, quiet)
+in_turn f s (x ∷ xs) = let here = f s x in after_effects here.1 (in_turn f here.0 xs)
+
+-- the outcome of an input that is answered ok
+abbrev pub accepted : {S : Type 0} → S × Effects → S × Outcome
+accepted done = (done.0, record { answer = answer.Ok; notes = done.1.notes; sends = done.1.sends })
+
+-- of one that is refused: all stays
+abbrev pub turned_down : {S : Type 0} → S → Refusal → S × Outcome
+turned_down s why = (s, record { answer = answer.No why; notes = []; sends = [] })
+
+-- by the first refusal, if there is one
+abbrev pub unless : {S : Type 0} → S → Option Refusal → S × Effects → S × Outcome
+unless s None done = accepted done
+unless s (Some why) done = turned_down s why

@@ -1,0 +1,69 @@
+-- Which bearer and generation a flight is of.
+use Rattle.std.specs.Prelude.{List, None, Option, Some, if◌then◌else◌, ℕ}
+use Rattle.dc_base.specs.declared.flights.Flight.{Flight}
+use Rattle.dc_base.specs.declared.flights.Flight.TheVariants as flight
+use Rattle.nr_u.specs.Frames.{number}
+use Rattle.nr_u.specs.declared.frame.Frame.{Frame}
+use Rattle.nr_u.specs.declared.frame.Frame.TheVariants as frame
+use Rattle.transcript.specs.Text.{is_data}
+use Rattle.node_rules.specs.Packets.{Packet, delivery, forwarding, nothing, packet_of, pdu_down, pdu_up}
+
+-- an identity and a generation
+abbrev pub Named : Type 0
+Named = ℕ × ℕ
+
+-- of a packet
+abbrev pub packet_named : Packet → Option Named
+packet_named (pdu_down id g number repeat pdu) = Some (id, g)
+packet_named (pdu_up id g pdu) = Some (id, g)
+packet_named (delivery id g status) = Some (id, g)
+packet_named (forwarding id g d load) = Some (id, g)
+packet_named nothing = None
+
+-- of a flight of user data; a record is of no one bearer
+abbrev pub flight_named : Flight → Option Named
+flight_named (flight.Air id g num tag pdu) = Some (id, g)
+flight_named (flight.Ack id g num) = Some (id, g)
+flight_named (flight.Tun tag packet) = packet_named (packet_of packet)
+flight_named (flight.Sdu id g payload) = Some (id, g)
+flight_named (flight.End id g) = Some (id, g)
+flight_named (flight.Told id g count) = Some (id, g)
+flight_named (flight.Ctl r) = None
+
+-- ---- by which edge of its receiver's windows a flight ages: the premise on packet lifetime (this product's own)
+
+-- a data PDU by that of the receiving side, a delivery status by that of the sending side, and other flights by none
+pub data Weight : Type 0 where
+  data_pdu_of : (id : ℕ) → (g : ℕ) → (count : ℕ) → Weight
+  delivery_of : (id : ℕ) → (g : ℕ) → (count : ℕ) → Weight
+  weightless : Weight
+
+-- a PDU with its COUNT
+abbrev pub pdu_weight : ℕ → ℕ → ℕ → List ℕ → Weight
+pdu_weight id g count pdu = if is_data pdu then data_pdu_of id g count else weightless
+
+-- a frame with a COUNT
+abbrev pub frame_weight : ℕ → ℕ → ℕ → Frame → Weight
+frame_weight id g count (frame.User number user repeat) = weightless
+frame_weight id g count (frame.Status None lost) = weightless
+frame_weight id g count (frame.Status (Some highest) lost) = delivery_of id g count
+
+-- a packet with a COUNT
+abbrev pub packet_weight : ℕ → Packet → Weight
+packet_weight count (pdu_down id g number repeat pdu) = pdu_weight id g count pdu
+packet_weight count (pdu_up id g pdu) = pdu_weight id g count pdu
+packet_weight count (delivery id g status) = frame_weight id g count status
+packet_weight count (forwarding id g d load) = weightless
+packet_weight count nothing = weightless
+
+-- a flight: without a tag it has none
+abbrev pub weight : Flight → Weight
+weight (flight.Air id g num None pdu) = weightless
+weight (flight.Air id g num (Some count) pdu) = pdu_weight id g count pdu
+weight (flight.Ack id g num) = weightless
+weight (flight.Tun None packet) = weightless
+weight (flight.Tun (Some count) packet) = packet_weight count (packet_of packet)
+weight (flight.Sdu id g payload) = weightless
+weight (flight.End id g) = weightless
+weight (flight.Told id g count) = weightless
+weight (flight.Ctl r) = weightless

@@ -1,0 +1,75 @@
+-- What the master's procedures hold: the command table, the command that is open, and the releases that were asked for.
+use Rattle.std.specs.List.{list_any}
+use Rattle.std.specs.Prelude.{Bool, List, None, Option, Some, false, is_some, not, ℕ, ◌&&◌, ◌==◌}
+use Rattle.dc_base.specs.declared.nodes.Node.{Node}
+use Rattle.dc_base.specs.declared.nodes.Node.TheVariants.{A, B, M, T}
+use Rattle.dc_base.specs.declared.records.Item.{Item}
+use Rattle.dc_base.specs.declared.records.Item.TheVariants as item
+use Rattle.dc_base.specs.declared.records.Plan.{Plan}
+use Rattle.transcript.specs.Bearers.{change}
+use Rattle.node_rules.specs.Acts.{Act}
+use Rattle.node_rules.specs.CommandTable.{Change, Table, new_table, row}
+use Rattle.node_rules.specs.Drafts.{First}
+
+-- a command that is carried out: whether the terminal answered; the secondary node that is to hear of that, and whether as
+-- the confirm of what it asked for; the secondary node that leaves; and the bearers that move, each with its new anchor, as
+-- long as that has not adopted it
+pub record Going : Type 0 where
+  pub complete : Bool
+  pub due : Option Node
+  pub confirms : Bool
+  pub leaving : Option Node
+  pub moving : List (ℕ × Node)
+
+-- the command that is open: the first record was sent to a node, which has not answered (`wanted`: a secondary node asked for
+-- the command); it is carried out; or a bearer recovers, and the terminal and maybe a secondary node still have to say so
+pub data Command : Type 0 where
+  asked : (change : Change) → (first : First) → (who : Node) → (wanted : Bool) → Command
+  gone : (plan : Plan) → (going : Going) → Command
+  recovering : (id : ℕ) → (terminal : Bool) → (second : Option Node) → Command
+
+-- `a_waits`, `b_waits`: that node asked for its release, and has no answer
+pub record MasterProc : Type 0 where
+  pub table : Table
+  pub command : Option Command
+  pub a_waits : Bool
+  pub b_waits : Bool
+
+-- the state with what the node has to do
+abbrev pub MasterActs : Type 0
+MasterActs = MasterProc × List Act
+
+-- the state before the first command
+abbrev pub new_master_proc : ℕ → List ℕ → MasterProc
+new_master_proc used root = record { table = new_table used root; command = None; a_waits = false; b_waits = false }
+
+-- the generation of a plan is being established or dropped by an item for this identity
+abbrev pub is_unsettled_by : ℕ → Item → Bool
+is_unsettled_by id (item.Set i n first shape threshold policy key None) = i == id
+is_unsettled_by id (item.Set i n first shape threshold policy key (Some old)) = false
+is_unsettled_by id (item.Unset i) = i == id
+
+-- the open command sets the bearer up or drops it
+abbrev pub is_unsettled : ℕ → Option Command → Bool
+is_unsettled id None = false
+is_unsettled id (Some (asked c first who wanted)) = list_any (is_unsettled_by id) c.plan.items
+is_unsettled id (Some (gone plan going)) = list_any (is_unsettled_by id) plan.items
+is_unsettled id (Some (recovering i terminal second)) = false
+
+-- the bearer is established, and no command drops it
+abbrev pub has_bearer : MasterProc → ℕ → Bool
+has_bearer m id = is_some (row m.table id) && not (is_unsettled id m.command)
+
+-- the release that a node asked for waits
+abbrev pub waits_at : MasterProc → Node → Bool
+waits_at m A = m.a_waits
+waits_at m B = m.b_waits
+waits_at m M = false
+waits_at m T = false
+
+-- a node's request waits from now on, or does no longer
+abbrev pub with_waits : Bool → Node → MasterProc → MasterProc
+with_waits w A m = record m { a_waits = w }
+with_waits w B m = record m { b_waits = w }
+with_waits w M m = m
+with_waits w T m = m
