@@ -9,8 +9,7 @@ use Rattle.dc_base.specs.declared.numbers.SnLen.{SnLen}
 use Rattle.dc_base.specs.declared.records.Item.{Item}
 use Rattle.dc_base.specs.declared.records.Item.TheVariants as item
 use Rattle.dc_base.specs.declared.records.Plan.{Plan}
-use Rattle.key_chain.specs.Book.{Book, counters_drawn, is_spent, with_claim}
-use Rattle.key_chain.specs.declared.key_book.Claim.{Claim}
+use Rattle.key_chain.specs.Book.{Book, Claim, counters_drawn, is_spent, with_claim}
 use Rattle.node_rules.specs.Places.{anchor_at}
 
 -- a bearer: its identity, its establishment (named by the generation that set it up), what it was set up with, its key, the

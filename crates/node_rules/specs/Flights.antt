@@ -2,10 +2,10 @@
 use Rattle.std.specs.Prelude.{List, None, Option, Some, if◌then◌else◌, ℕ}
 use Rattle.dc_base.specs.declared.flights.Flight.{Flight}
 use Rattle.dc_base.specs.declared.flights.Flight.TheVariants as flight
+use Rattle.pdcp_pdu.specs.DataPdu.{is_data}
 use Rattle.nr_u.specs.Frames.{number}
 use Rattle.nr_u.specs.declared.frame.Frame.{Frame}
 use Rattle.nr_u.specs.declared.frame.Frame.TheVariants as frame
-use Rattle.pdcp_pdu.specs.DataPdu.{is_data}
 use Rattle.node_rules.specs.Packets.{Packet, delivery, forwarding, nothing, packet_of, pdu_down, pdu_up}
 
 -- an identity and a generation

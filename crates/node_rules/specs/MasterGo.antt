@@ -82,7 +82,7 @@ leave_acts None told p = []
 leave_acts (Some x) None p = []
 leave_acts (Some x) (Some how) p = send x (leave_record how p) ∷ []
 
--- a change is carried out: the terminal is told with the octets of the root that is current then
+-- a change is carried out: the terminal is told first, with the octets of the root that is current then (TS 37.340, 10.2.2)
 abbrev pub goes : MasterProc → Change → Way → MasterActs
 goes m c w = (
   record m {

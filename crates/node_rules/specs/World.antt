@@ -1,12 +1,13 @@
 -- The four nodes and what stands on the links between them, one event after another.
 use Rattle.std.specs.List.{list_any}
-use Rattle.std.specs.Prelude.{List, None, Option, Some, [], filter, find, if◌then◌else◌, map, suc, zero, ℕ, ◌++◌, ◌∷◌}
+use Rattle.std.specs.Prelude.{List, None, Option, Some, [], find, flat_map, if◌then◌else◌, suc, zero, ℕ, ◌++◌, ◌∷◌}
 use Rattle.dc_base.specs.Links.{all_links, is_same_link}
 use Rattle.dc_base.specs.declared.events.Header.{Header}
 use Rattle.dc_base.specs.declared.events.Line.{Line}
 use Rattle.dc_base.specs.declared.flights.Flight.{Flight}
 use Rattle.dc_base.specs.declared.nodes.LinkId.{LinkId}
 use Rattle.dc_base.specs.declared.nodes.Node.TheVariants.{A, B}
+use Rattle.transcript.specs.Content.{on_link}
 use Rattle.transcript.specs.Transcript.{sends}
 use Rattle.node_rules.specs.Choices.{Send}
 use Rattle.node_rules.specs.Master.{MasterNode, new_master}
@@ -35,7 +36,7 @@ new_world h = record {
 
 -- the flights that stand on a link, in order
 abbrev pub flights_on : LinkId → List Send → List Flight
-flights_on l standing = map (λ (s : Send). s.1) (filter (λ (s : Send). is_same_link l s.0) standing)
+flights_on l standing = flat_map (on_link l) standing
 
 -- what stands without the flight at a place of a link, from 0
 abbrev pub without : LinkId → ℕ → List Send → List Send
