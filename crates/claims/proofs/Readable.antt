@@ -140,12 +140,12 @@ used_alone b key (c ∷ cs) is =
     elim (cases_Bool ((c.id == b.id) && is_same_key key c.key)) [
       | inl this ↦
           let all : ((c.bearer == b.g) && list_all (λ x. x.bearer == b.g) (uses_of b.id key cs)) ≡ true =
-              sym (ap (λ t. list_all (λ (x : Claimed). x.bearer == b.g) (if t then c ∷ uses_of b.id key cs else uses_of b.id key cs)) this) ∙ is in
+          sym (ap (λ t. list_all (λ (x : Claimed). x.bearer == b.g) (if t then c ∷ uses_of b.id key cs else uses_of b.id key cs)) this) ∙ is in
           let both = and_parts _ _ all in
           (λ i k. eqb-true c.bearer b.g both.0, used_alone b key cs both.1)
       | inr other ↦
           let rest : list_all (λ x. x.bearer == b.g) (uses_of b.id key cs) ≡ true =
-              sym (ap (λ t. list_all (λ (x : Claimed). x.bearer == b.g) (if t then c ∷ uses_of b.id key cs else uses_of b.id key cs)) other) ∙ is in
+          sym (ap (λ t. list_all (λ (x : Claimed). x.bearer == b.g) (if t then c ∷ uses_of b.id key cs else uses_of b.id key cs)) other) ∙ is in
           (λ i k. let same : ((c.id == b.id) && is_same_key key c.key) ≡ true = and_from _ _ (eq-eqb c.id b.id i) (same_key key c.key k) in absurd cc, used_alone b key cs rest)
     ]
 

@@ -38,13 +38,13 @@ before_c1_up_line_with_an_altered_payload =
     ∷ an_entry (event.Submit 1 Dl (104 ∷ 105 ∷ [])) answer.Ok (line.Send (link M T Air) (flight.Air 1 1 0 (Some 0) (128 ∷ 0 ∷ 104 ∷ 105 ∷ [])) ∷ [])
     ∷ []
 
-c1_up_line_with_an_altered_payload_is_wrong : breaks (a_header Nea0 0 (replicate 32 0)) (before_c1_up_line_with_an_altered_payload ++ 
+c1_up_line_with_an_altered_payload_is_wrong : breaks (a_header Nea0 0 (replicate 32 0)) (before_c1_up_line_with_an_altered_payload ++
     an_entry (event.Step (link M T Air) 0) answer.Ok (line.Note (note.Up T 1 Dl 0 (104 ∷ 104 ∷ [])) ∷ line.Send (link T M Air) (flight.Ack 1 1 0) ∷ [])
     ∷ []) ≡ front ∷ []
 unfolding sn window modulus distance count_for data_pdu decoded read_data read_report keystream counter_block stream_blocks report_pdu
 c1_up_line_with_an_altered_payload_is_wrong = refl
 
-c1_up_line_with_an_altered_payload_is_right : breaks (a_header Nea0 0 (replicate 32 0)) (before_c1_up_line_with_an_altered_payload ++ 
+c1_up_line_with_an_altered_payload_is_right : breaks (a_header Nea0 0 (replicate 32 0)) (before_c1_up_line_with_an_altered_payload ++
     an_entry (event.Step (link M T Air) 0) answer.Ok (line.Note (note.Up T 1 Dl 0 (104 ∷ 105 ∷ [])) ∷ line.Send (link T M Air) (flight.Ack 1 1 0) ∷ [])
     ∷ []) ≡ []
 unfolding sn window modulus distance count_for data_pdu decoded read_data read_report keystream counter_block stream_blocks report_pdu
@@ -58,13 +58,13 @@ before_c2_handed_up_at_its_submission =
     ∷ an_entry (event.Step (link T M Ctl) 0) answer.Ok (line.Note note.Done ∷ [])
     ∷ []
 
-c2_handed_up_at_its_submission_is_wrong : breaks (a_header Nea0 0 (replicate 32 0)) (before_c2_handed_up_at_its_submission ++ 
+c2_handed_up_at_its_submission_is_wrong : breaks (a_header Nea0 0 (replicate 32 0)) (before_c2_handed_up_at_its_submission ++
     an_entry (event.Submit 1 Dl (104 ∷ 105 ∷ [])) answer.Ok (line.Note (note.Up T 1 Dl 0 (104 ∷ 105 ∷ [])) ∷ line.Send (link M T Air) (flight.Air 1 1 0 (Some 0) (128 ∷ 0 ∷ 104 ∷ 105 ∷ [])) ∷ [])
     ∷ []) ≡ carried ∷ []
 unfolding sn window modulus distance count_for data_pdu decoded read_data read_report keystream counter_block stream_blocks report_pdu
 c2_handed_up_at_its_submission_is_wrong = refl
 
-c2_handed_up_at_its_submission_is_right : breaks (a_header Nea0 0 (replicate 32 0)) (before_c2_handed_up_at_its_submission ++ 
+c2_handed_up_at_its_submission_is_right : breaks (a_header Nea0 0 (replicate 32 0)) (before_c2_handed_up_at_its_submission ++
     an_entry (event.Submit 1 Dl (104 ∷ 105 ∷ [])) answer.Ok (line.Send (link M T Air) (flight.Air 1 1 0 (Some 0) (128 ∷ 0 ∷ 104 ∷ 105 ∷ [])) ∷ [])
     ∷ []) ≡ []
 unfolding sn window modulus distance count_for data_pdu decoded read_data read_report keystream counter_block stream_blocks report_pdu
@@ -83,13 +83,13 @@ before_accepted_change_without_reconf =
     ∷ an_entry (event.Step (link M A Ctl) 0) answer.Ok (line.Note (note.Own A 1 2) ∷ line.Send (link A M Ctl) (flight.Ctl (rec.Modack 2)) ∷ [])
     ∷ []
 
-accepted_change_without_reconf_is_wrong : breaks (a_header Nea0 0 (replicate 32 0)) (before_accepted_change_without_reconf ++ 
+accepted_change_without_reconf_is_wrong : breaks (a_header Nea0 0 (replicate 32 0)) (before_accepted_change_without_reconf ++
     an_entry (event.Step (link A M Ctl) 0) answer.Ok []
     ∷ []) ≡ come ∷ unstalled ∷ []
 unfolding sn window modulus distance count_for data_pdu decoded read_data read_report keystream counter_block stream_blocks report_pdu
 accepted_change_without_reconf_is_wrong = refl
 
-accepted_change_without_reconf_is_right : breaks (a_header Nea0 0 (replicate 32 0)) (before_accepted_change_without_reconf ++ 
+accepted_change_without_reconf_is_right : breaks (a_header Nea0 0 (replicate 32 0)) (before_accepted_change_without_reconf ++
     an_entry (event.Step (link A M Ctl) 0) answer.Ok (line.Send (link M T Ctl) (flight.Ctl (rec.Reconf (a_plan 2 (Some A) (Set 1 S12 0 (a_shape true Scg false) 0 0 (a_key 0 (SecondKey 0)) None ∷ [])) [])) ∷ [])
     ∷ []) ≡ []
 unfolding sn window modulus distance count_for data_pdu decoded read_data read_report keystream counter_block stream_blocks report_pdu
@@ -106,13 +106,13 @@ before_ack_of_a_report_confirms_a_count =
     ∷ an_entry (event.Step (link M T Air) 1) answer.Ok (line.Send (link T M Air) (flight.Ack 1 1 1) ∷ [])
     ∷ []
 
-ack_of_a_report_confirms_a_count_is_wrong : breaks (a_header Nea0 0 (replicate 32 0)) (before_ack_of_a_report_confirms_a_count ++ 
+ack_of_a_report_confirms_a_count_is_wrong : breaks (a_header Nea0 0 (replicate 32 0)) (before_ack_of_a_report_confirms_a_count ++
     an_entry (event.Step (link T M Air) 0) answer.Ok (line.Note (note.Freed 1 Dl 1) ∷ [])
     ∷ []) ≡ told ∷ []
 unfolding sn window modulus distance count_for data_pdu decoded read_data read_report keystream counter_block stream_blocks report_pdu
 ack_of_a_report_confirms_a_count_is_wrong = refl
 
-ack_of_a_report_confirms_a_count_is_right : breaks (a_header Nea0 0 (replicate 32 0)) (before_ack_of_a_report_confirms_a_count ++ 
+ack_of_a_report_confirms_a_count_is_right : breaks (a_header Nea0 0 (replicate 32 0)) (before_ack_of_a_report_confirms_a_count ++
     an_entry (event.Step (link T M Air) 0) answer.Ok []
     ∷ []) ≡ []
 unfolding sn window modulus distance count_for data_pdu decoded read_data read_report keystream counter_block stream_blocks report_pdu
@@ -129,13 +129,13 @@ before_ack_of_an_old_generation_confirms =
     ∷ an_entry (event.RekeyMaster (replicate 32 17)) answer.Ok (line.Note (note.Own M 1 2) ∷ line.Send (link M T Ctl) (flight.Ctl (rec.Reconf (a_plan 2 None (Set 1 S12 0 (a_shape false Mcg false) 0 0 (a_key 1 Master) (Some M) ∷ [])) [])) ∷ [])
     ∷ []
 
-ack_of_an_old_generation_confirms_is_wrong : breaks (a_header Nea0 0 (replicate 32 0)) (before_ack_of_an_old_generation_confirms ++ 
+ack_of_an_old_generation_confirms_is_wrong : breaks (a_header Nea0 0 (replicate 32 0)) (before_ack_of_an_old_generation_confirms ++
     an_entry (event.Step (link T M Air) 0) answer.Ok (line.Note (note.Freed 1 Dl 1) ∷ [])
     ∷ []) ≡ told ∷ []
 unfolding sn window modulus distance count_for data_pdu decoded read_data read_report keystream counter_block stream_blocks report_pdu
 ack_of_an_old_generation_confirms_is_wrong = refl
 
-ack_of_an_old_generation_confirms_is_right : breaks (a_header Nea0 0 (replicate 32 0)) (before_ack_of_an_old_generation_confirms ++ 
+ack_of_an_old_generation_confirms_is_right : breaks (a_header Nea0 0 (replicate 32 0)) (before_ack_of_an_old_generation_confirms ++
     an_entry (event.Step (link T M Air) 0) answer.Ok []
     ∷ []) ≡ []
 unfolding sn window modulus distance count_for data_pdu decoded read_data read_report keystream counter_block stream_blocks report_pdu
@@ -151,25 +151,25 @@ before_ack_of_another_num =
     ∷ an_entry (event.Submit 1 Dl (121 ∷ 111 ∷ [])) answer.Ok (line.Send (link M T Air) (flight.Air 1 1 1 (Some 1) (128 ∷ 1 ∷ 121 ∷ 111 ∷ [])) ∷ [])
     ∷ []
 
-ack_of_another_num_is_wrong : breaks (a_header Nea0 0 (replicate 32 0)) (before_ack_of_another_num ++ 
+ack_of_another_num_is_wrong : breaks (a_header Nea0 0 (replicate 32 0)) (before_ack_of_another_num ++
     an_entry (event.Step (link M T Air) 0) answer.Ok (line.Note (note.Up T 1 Dl 0 (104 ∷ 105 ∷ [])) ∷ line.Send (link T M Air) (flight.Ack 1 1 1) ∷ [])
     ∷ []) ≡ licensed ∷ []
 unfolding sn window modulus distance count_for data_pdu decoded read_data read_report keystream counter_block stream_blocks report_pdu
 ack_of_another_num_is_wrong = refl
 
-ack_of_another_num_is_right : breaks (a_header Nea0 0 (replicate 32 0)) (before_ack_of_another_num ++ 
+ack_of_another_num_is_right : breaks (a_header Nea0 0 (replicate 32 0)) (before_ack_of_another_num ++
     an_entry (event.Step (link M T Air) 0) answer.Ok (line.Note (note.Up T 1 Dl 0 (104 ∷ 105 ∷ [])) ∷ line.Send (link T M Air) (flight.Ack 1 1 0) ∷ [])
     ∷ []) ≡ []
 unfolding sn window modulus distance count_for data_pdu decoded read_data read_report keystream counter_block stream_blocks report_pdu
 ack_of_another_num_is_right = refl
 
-ack_on_the_same_link_is_wrong : breaks (a_header Nea0 0 (replicate 32 0)) (before_c1_up_line_with_an_altered_payload ++ 
+ack_on_the_same_link_is_wrong : breaks (a_header Nea0 0 (replicate 32 0)) (before_c1_up_line_with_an_altered_payload ++
     an_entry (event.Step (link M T Air) 0) answer.Ok (line.Note (note.Up T 1 Dl 0 (104 ∷ 105 ∷ [])) ∷ line.Send (link M T Air) (flight.Ack 1 1 0) ∷ [])
     ∷ []) ≡ licensed ∷ []
 unfolding sn window modulus distance count_for data_pdu decoded read_data read_report keystream counter_block stream_blocks report_pdu
 ack_on_the_same_link_is_wrong = refl
 
-ack_on_the_same_link_is_right : breaks (a_header Nea0 0 (replicate 32 0)) (before_c1_up_line_with_an_altered_payload ++ 
+ack_on_the_same_link_is_right : breaks (a_header Nea0 0 (replicate 32 0)) (before_c1_up_line_with_an_altered_payload ++
     an_entry (event.Step (link M T Air) 0) answer.Ok (line.Note (note.Up T 1 Dl 0 (104 ∷ 105 ∷ [])) ∷ line.Send (link T M Air) (flight.Ack 1 1 0) ∷ [])
     ∷ []) ≡ []
 unfolding sn window modulus distance count_for data_pdu decoded read_data read_report keystream counter_block stream_blocks report_pdu
@@ -195,25 +195,25 @@ before_ack_taken_by_the_host_confirms_at_the_anchor =
     ∷ an_entry (event.Step (link A T Air) 0) answer.Ok (line.Note (note.Up T 1 Dl 0 (170 ∷ [])) ∷ line.Send (link T A Air) (flight.Ack 1 2 0) ∷ [])
     ∷ []
 
-ack_taken_by_the_host_confirms_at_the_anchor_is_wrong : breaks (a_header Nea0 0 (replicate 32 0)) (before_ack_taken_by_the_host_confirms_at_the_anchor ++ 
+ack_taken_by_the_host_confirms_at_the_anchor_is_wrong : breaks (a_header Nea0 0 (replicate 32 0)) (before_ack_taken_by_the_host_confirms_at_the_anchor ++
     an_entry (event.Step (link T A Air) 0) answer.Ok (line.Note (note.Freed 1 Dl 1) ∷ line.Send (link A M Tun) (flight.Tun (Some 0) (52 ∷ 255 ∷ 0 ∷ 12 ∷ 0 ∷ 0 ∷ 1 ∷ 0 ∷ 0 ∷ 0 ∷ 0 ∷ 132 ∷ 2 ∷ 17 ∷ 0 ∷ 0 ∷ 0 ∷ 0 ∷ 0 ∷ 0 ∷ [])) ∷ [])
     ∷ []) ≡ told ∷ []
 unfolding sn window modulus distance count_for data_pdu decoded read_data read_report keystream counter_block stream_blocks report_pdu
 ack_taken_by_the_host_confirms_at_the_anchor_is_wrong = refl
 
-ack_taken_by_the_host_confirms_at_the_anchor_is_right : breaks (a_header Nea0 0 (replicate 32 0)) (before_ack_taken_by_the_host_confirms_at_the_anchor ++ 
+ack_taken_by_the_host_confirms_at_the_anchor_is_right : breaks (a_header Nea0 0 (replicate 32 0)) (before_ack_taken_by_the_host_confirms_at_the_anchor ++
     an_entry (event.Step (link T A Air) 0) answer.Ok (line.Send (link A M Tun) (flight.Tun (Some 0) (52 ∷ 255 ∷ 0 ∷ 12 ∷ 0 ∷ 0 ∷ 1 ∷ 0 ∷ 0 ∷ 0 ∷ 0 ∷ 132 ∷ 2 ∷ 17 ∷ 0 ∷ 0 ∷ 0 ∷ 0 ∷ 0 ∷ 0 ∷ [])) ∷ [])
     ∷ []) ≡ []
 unfolding sn window modulus distance count_for data_pdu decoded read_data read_report keystream counter_block stream_blocks report_pdu
 ack_taken_by_the_host_confirms_at_the_anchor_is_right = refl
 
-ack_without_a_pdu_is_wrong : breaks (a_header Nea0 0 (replicate 32 0)) (before_c2_handed_up_at_its_submission ++ 
+ack_without_a_pdu_is_wrong : breaks (a_header Nea0 0 (replicate 32 0)) (before_c2_handed_up_at_its_submission ++
     an_entry (event.Submit 1 Dl (104 ∷ 105 ∷ [])) answer.Ok (line.Send (link M T Air) (flight.Air 1 1 0 (Some 0) (128 ∷ 0 ∷ 104 ∷ 105 ∷ [])) ∷ line.Send (link T M Air) (flight.Ack 1 1 0) ∷ [])
     ∷ []) ≡ licensed ∷ []
 unfolding sn window modulus distance count_for data_pdu decoded read_data read_report keystream counter_block stream_blocks report_pdu
 ack_without_a_pdu_is_wrong = refl
 
-ack_without_a_pdu_is_right : breaks (a_header Nea0 0 (replicate 32 0)) (before_c2_handed_up_at_its_submission ++ 
+ack_without_a_pdu_is_right : breaks (a_header Nea0 0 (replicate 32 0)) (before_c2_handed_up_at_its_submission ++
     an_entry (event.Submit 1 Dl (104 ∷ 105 ∷ [])) answer.Ok (line.Send (link M T Air) (flight.Air 1 1 0 (Some 0) (128 ∷ 0 ∷ 104 ∷ 105 ∷ [])) ∷ [])
     ∷ []) ≡ []
 unfolding sn window modulus distance count_for data_pdu decoded read_data read_report keystream counter_block stream_blocks report_pdu
@@ -225,13 +225,13 @@ before_addack_twice =
     an_entry (event.Add A) answer.Ok (line.Send (link M A Ctl) (flight.Ctl (rec.Addreq (a_plan 1 (Some A) []) [])) ∷ [])
     ∷ []
 
-addack_twice_is_wrong : breaks (a_header Nea0 0 (replicate 32 0)) (before_addack_twice ++ 
+addack_twice_is_wrong : breaks (a_header Nea0 0 (replicate 32 0)) (before_addack_twice ++
     an_entry (event.Step (link M A Ctl) 0) answer.Ok (line.Note (note.Join A 1) ∷ line.Send (link A M Ctl) (flight.Ctl (rec.Addack 1)) ∷ line.Send (link A M Ctl) (flight.Ctl (rec.Addack 1)) ∷ [])
     ∷ []) ≡ licensed ∷ []
 unfolding sn window modulus distance count_for data_pdu decoded read_data read_report keystream counter_block stream_blocks report_pdu
 addack_twice_is_wrong = refl
 
-addack_twice_is_right : breaks (a_header Nea0 0 (replicate 32 0)) (before_addack_twice ++ 
+addack_twice_is_right : breaks (a_header Nea0 0 (replicate 32 0)) (before_addack_twice ++
     an_entry (event.Step (link M A Ctl) 0) answer.Ok (line.Note (note.Join A 1) ∷ line.Send (link A M Ctl) (flight.Ctl (rec.Addack 1)) ∷ [])
     ∷ []) ≡ []
 unfolding sn window modulus distance count_for data_pdu decoded read_data read_report keystream counter_block stream_blocks report_pdu
@@ -246,14 +246,14 @@ before_addition_that_never_ends =
     ∷ an_entry (event.Step (link M T Ctl) 0) answer.Ok (line.Send (link T M Ctl) (flight.Ctl (rec.Rcomp 1)) ∷ [])
     ∷ []
 
-addition_that_never_ends_is_wrong : breaks (a_header Nea0 0 (replicate 32 0)) (before_addition_that_never_ends ++ 
+addition_that_never_ends_is_wrong : breaks (a_header Nea0 0 (replicate 32 0)) (before_addition_that_never_ends ++
     an_entry (event.Step (link T M Ctl) 0) answer.Ok (line.Send (link M A Ctl) (flight.Ctl (rec.Recfg 1)) ∷ [])
     ∷ an_entry (event.Step (link M A Ctl) 0) answer.Ok []
     ∷ []) ≡ come ∷ unstalled ∷ []
 unfolding sn window modulus distance count_for data_pdu decoded read_data read_report keystream counter_block stream_blocks report_pdu
 addition_that_never_ends_is_wrong = refl
 
-addition_that_never_ends_is_right : breaks (a_header Nea0 0 (replicate 32 0)) (before_addition_that_never_ends ++ 
+addition_that_never_ends_is_right : breaks (a_header Nea0 0 (replicate 32 0)) (before_addition_that_never_ends ++
     an_entry (event.Step (link T M Ctl) 0) answer.Ok (line.Send (link M A Ctl) (flight.Ctl (rec.Recfg 1)) ∷ line.Note note.Done ∷ [])
     ∷ an_entry (event.Step (link M A Ctl) 0) answer.Ok []
     ∷ []) ≡ []
@@ -277,13 +277,13 @@ before_again_without_its_copy =
     ∷ an_entry (event.Submit 1 Dl (170 ∷ [])) answer.Ok (line.Send (link M A Tun) (flight.Tun (Some 0) (52 ∷ 255 ∷ 0 ∷ 15 ∷ 0 ∷ 0 ∷ 1 ∷ 0 ∷ 0 ∷ 0 ∷ 0 ∷ 132 ∷ 2 ∷ 1 ∷ 0 ∷ 0 ∷ 0 ∷ 0 ∷ 0 ∷ 0 ∷ 128 ∷ 0 ∷ 170 ∷ [])) ∷ [])
     ∷ []
 
-again_without_its_copy_is_wrong : breaks (a_header Nea0 0 (replicate 32 0)) (before_again_without_its_copy ++ 
+again_without_its_copy_is_wrong : breaks (a_header Nea0 0 (replicate 32 0)) (before_again_without_its_copy ++
     an_entry (event.Again (link M A Tun) 0) answer.Ok []
     ∷ []) ≡ come ∷ []
 unfolding sn window modulus distance count_for data_pdu decoded read_data read_report keystream counter_block stream_blocks report_pdu
 again_without_its_copy_is_wrong = refl
 
-again_without_its_copy_is_right : breaks (a_header Nea0 0 (replicate 32 0)) (before_again_without_its_copy ++ 
+again_without_its_copy_is_right : breaks (a_header Nea0 0 (replicate 32 0)) (before_again_without_its_copy ++
     an_entry (event.Again (link M A Tun) 0) answer.Ok (line.Send (link M A Tun) (flight.Tun (Some 0) (52 ∷ 255 ∷ 0 ∷ 15 ∷ 0 ∷ 0 ∷ 1 ∷ 0 ∷ 0 ∷ 0 ∷ 0 ∷ 132 ∷ 2 ∷ 1 ∷ 0 ∷ 0 ∷ 0 ∷ 0 ∷ 0 ∷ 0 ∷ 128 ∷ 0 ∷ 170 ∷ [])) ∷ [])
     ∷ []) ≡ []
 unfolding sn window modulus distance count_for data_pdu decoded read_data read_report keystream counter_block stream_blocks report_pdu
@@ -305,7 +305,7 @@ before_anchor_frozen_without_forwarding =
     ∷ an_entry (event.Step (link M A Ctl) 0) answer.Ok (line.Send (link A M Ctl) (flight.Ctl (rec.Modack 3)) ∷ [])
     ∷ []
 
-anchor_frozen_without_forwarding_is_wrong : breaks (a_header Nea0 0 (replicate 32 0)) (before_anchor_frozen_without_forwarding ++ 
+anchor_frozen_without_forwarding_is_wrong : breaks (a_header Nea0 0 (replicate 32 0)) (before_anchor_frozen_without_forwarding ++
     an_entry (event.Step (link A M Ctl) 0) answer.Ok (line.Note (note.Give M 1 3) ∷ line.Send (link M T Ctl) (flight.Ctl (rec.Reconf (a_plan 3 (Some A) (Set 1 S12 0 (a_shape true Scg false) 0 0 (a_key 0 (SecondKey 0)) (Some M) ∷ [])) [])) ∷ line.Send (link M A Ctl) (flight.Ctl (rec.Snst (a_transfer 3 1 0 [] 0))) ∷ [])
     ∷ an_entry (event.Step (link M T Ctl) 0) answer.Ok (line.Note (note.Set 1 3) ∷ line.Send (link T M Ctl) (flight.Ctl (rec.Rcomp 3)) ∷ [])
     ∷ an_entry (event.Step (link T M Ctl) 0) answer.Ok (line.Send (link M A Ctl) (flight.Ctl (rec.Recfg 3)) ∷ [])
@@ -315,7 +315,7 @@ anchor_frozen_without_forwarding_is_wrong : breaks (a_header Nea0 0 (replicate 3
 unfolding sn window modulus distance count_for data_pdu decoded read_data read_report keystream counter_block stream_blocks report_pdu
 anchor_frozen_without_forwarding_is_wrong = refl
 
-anchor_frozen_without_forwarding_is_right : breaks (a_header Nea0 0 (replicate 32 0)) (before_anchor_frozen_without_forwarding ++ 
+anchor_frozen_without_forwarding_is_right : breaks (a_header Nea0 0 (replicate 32 0)) (before_anchor_frozen_without_forwarding ++
     an_entry (event.Step (link A M Ctl) 0) answer.Ok (line.Note (note.Give M 1 3) ∷ line.Send (link M T Ctl) (flight.Ctl (rec.Reconf (a_plan 3 (Some A) (Set 1 S12 0 (a_shape true Scg false) 0 0 (a_key 0 (SecondKey 0)) (Some M) ∷ [])) [])) ∷ line.Send (link M A Ctl) (flight.Ctl (rec.Snst (a_transfer 3 1 0 [] 0))) ∷ line.Send (link M A Tun) (flight.Tun None (52 ∷ 255 ∷ 0 ∷ 12 ∷ 0 ∷ 0 ∷ 1 ∷ 129 ∷ 0 ∷ 0 ∷ 0 ∷ 132 ∷ 2 ∷ 0 ∷ 0 ∷ 0 ∷ 0 ∷ 0 ∷ 0 ∷ 0 ∷ [])) ∷ line.Send (link M A Tun) (flight.Tun None (48 ∷ 254 ∷ 0 ∷ 0 ∷ 0 ∷ 0 ∷ 1 ∷ 129 ∷ [])) ∷ line.Send (link M A Tun) (flight.Tun None (52 ∷ 255 ∷ 0 ∷ 12 ∷ 0 ∷ 0 ∷ 1 ∷ 130 ∷ 0 ∷ 0 ∷ 0 ∷ 132 ∷ 2 ∷ 0 ∷ 0 ∷ 0 ∷ 0 ∷ 0 ∷ 0 ∷ 0 ∷ [])) ∷ line.Send (link M A Tun) (flight.Tun None (48 ∷ 254 ∷ 0 ∷ 0 ∷ 0 ∷ 0 ∷ 1 ∷ 130 ∷ [])) ∷ [])
     ∷ an_entry (event.Step (link M T Ctl) 0) answer.Ok (line.Note (note.Set 1 3) ∷ line.Send (link T M Ctl) (flight.Ctl (rec.Rcomp 3)) ∷ [])
     ∷ an_entry (event.Step (link T M Ctl) 0) answer.Ok (line.Send (link M A Ctl) (flight.Ctl (rec.Recfg 3)) ∷ [])
@@ -377,13 +377,13 @@ before_both_legs_without_duplication =
     ∷ an_entry (event.Step (link T M Ctl) 0) answer.Ok (line.Send (link M A Ctl) (flight.Ctl (rec.Recfg 2)) ∷ line.Note note.Done ∷ [])
     ∷ []
 
-both_legs_without_duplication_is_wrong : breaks (a_header Nea0 0 (replicate 32 0)) (before_both_legs_without_duplication ++ 
+both_legs_without_duplication_is_wrong : breaks (a_header Nea0 0 (replicate 32 0)) (before_both_legs_without_duplication ++
     an_entry (event.Submit 1 Dl (170 ∷ [])) answer.Ok (line.Send (link M T Air) (flight.Air 1 2 0 (Some 0) (128 ∷ 0 ∷ 170 ∷ [])) ∷ line.Send (link M A Tun) (flight.Tun (Some 0) (52 ∷ 255 ∷ 0 ∷ 15 ∷ 0 ∷ 0 ∷ 1 ∷ 0 ∷ 0 ∷ 0 ∷ 0 ∷ 132 ∷ 2 ∷ 1 ∷ 0 ∷ 0 ∷ 0 ∷ 0 ∷ 0 ∷ 0 ∷ 128 ∷ 0 ∷ 170 ∷ [])) ∷ [])
     ∷ []) ≡ licensed ∷ []
 unfolding sn window modulus distance count_for data_pdu decoded read_data read_report keystream counter_block stream_blocks report_pdu
 both_legs_without_duplication_is_wrong = refl
 
-both_legs_without_duplication_is_right : breaks (a_header Nea0 0 (replicate 32 0)) (before_both_legs_without_duplication ++ 
+both_legs_without_duplication_is_right : breaks (a_header Nea0 0 (replicate 32 0)) (before_both_legs_without_duplication ++
     an_entry (event.Submit 1 Dl (170 ∷ [])) answer.Ok (line.Send (link M T Air) (flight.Air 1 2 0 (Some 0) (128 ∷ 0 ∷ 170 ∷ [])) ∷ [])
     ∷ []) ≡ []
 unfolding sn window modulus distance count_for data_pdu decoded read_data read_report keystream counter_block stream_blocks report_pdu
@@ -397,25 +397,25 @@ before_command_done_and_rejected =
     ∷ an_entry (event.Step (link M A Ctl) 0) answer.Ok (line.Send (link A M Ctl) (flight.Ctl (rec.Addrej 1)) ∷ [])
     ∷ []
 
-command_done_and_rejected_is_wrong : breaks (a_header Nea0 0 (replicate 32 0)) (before_command_done_and_rejected ++ 
+command_done_and_rejected_is_wrong : breaks (a_header Nea0 0 (replicate 32 0)) (before_command_done_and_rejected ++
     an_entry (event.Step (link A M Ctl) 0) answer.Ok (line.Note note.Done ∷ line.Note note.Rejected ∷ [])
     ∷ []) ≡ placed ∷ []
 unfolding sn window modulus distance count_for data_pdu decoded read_data read_report keystream counter_block stream_blocks report_pdu
 command_done_and_rejected_is_wrong = refl
 
-command_done_and_rejected_is_right : breaks (a_header Nea0 0 (replicate 32 0)) (before_command_done_and_rejected ++ 
+command_done_and_rejected_is_right : breaks (a_header Nea0 0 (replicate 32 0)) (before_command_done_and_rejected ++
     an_entry (event.Step (link A M Ctl) 0) answer.Ok (line.Note note.Rejected ∷ [])
     ∷ []) ≡ []
 unfolding sn window modulus distance count_for data_pdu decoded read_data read_report keystream counter_block stream_blocks report_pdu
 command_done_and_rejected_is_right = refl
 
-command_that_ends_twice_is_wrong : breaks (a_header Nea0 0 (replicate 32 0)) (before_addition_that_never_ends ++ 
+command_that_ends_twice_is_wrong : breaks (a_header Nea0 0 (replicate 32 0)) (before_addition_that_never_ends ++
     an_entry (event.Step (link T M Ctl) 0) answer.Ok (line.Send (link M A Ctl) (flight.Ctl (rec.Recfg 1)) ∷ line.Note note.Done ∷ line.Note note.Done ∷ [])
     ∷ []) ≡ placed ∷ []
 unfolding sn window modulus distance count_for data_pdu decoded read_data read_report keystream counter_block stream_blocks report_pdu
 command_that_ends_twice_is_wrong = refl
 
-command_that_ends_twice_is_right : breaks (a_header Nea0 0 (replicate 32 0)) (before_addition_that_never_ends ++ 
+command_that_ends_twice_is_right : breaks (a_header Nea0 0 (replicate 32 0)) (before_addition_that_never_ends ++
     an_entry (event.Step (link T M Ctl) 0) answer.Ok (line.Send (link M A Ctl) (flight.Ctl (rec.Recfg 1)) ∷ line.Note note.Done ∷ [])
     ∷ []) ≡ []
 unfolding sn window modulus distance count_for data_pdu decoded read_data read_report keystream counter_block stream_blocks report_pdu
@@ -434,13 +434,13 @@ before_confirmed_count_sent_again_after_a_rekey =
     ∷ an_entry (event.Step (link M T Ctl) 0) answer.Ok (line.Note (note.Set 1 2) ∷ line.Send (link T M Ctl) (flight.Ctl (rec.Rcomp 2)) ∷ [])
     ∷ []
 
-confirmed_count_sent_again_after_a_rekey_is_wrong : breaks (a_header Nea0 0 (replicate 32 0)) (before_confirmed_count_sent_again_after_a_rekey ++ 
+confirmed_count_sent_again_after_a_rekey_is_wrong : breaks (a_header Nea0 0 (replicate 32 0)) (before_confirmed_count_sent_again_after_a_rekey ++
     an_entry (event.Step (link T M Ctl) 0) answer.Ok (line.Send (link M T Air) (flight.Air 1 2 0 (Some 0) (128 ∷ 0 ∷ 170 ∷ [])) ∷ line.Note note.Done ∷ [])
     ∷ []) ≡ licensed ∷ []
 unfolding sn window modulus distance count_for data_pdu decoded read_data read_report keystream counter_block stream_blocks report_pdu
 confirmed_count_sent_again_after_a_rekey_is_wrong = refl
 
-confirmed_count_sent_again_after_a_rekey_is_right : breaks (a_header Nea0 0 (replicate 32 0)) (before_confirmed_count_sent_again_after_a_rekey ++ 
+confirmed_count_sent_again_after_a_rekey_is_right : breaks (a_header Nea0 0 (replicate 32 0)) (before_confirmed_count_sent_again_after_a_rekey ++
     an_entry (event.Step (link T M Ctl) 0) answer.Ok (line.Note note.Done ∷ [])
     ∷ []) ≡ []
 unfolding sn window modulus distance count_for data_pdu decoded read_data read_report keystream counter_block stream_blocks report_pdu
@@ -476,13 +476,13 @@ before_control_pdu_passed_on_that_was_not_taken =
     ∷ an_entry (event.Submit 1 Dl (170 ∷ [])) answer.Ok (line.Send (link M A Tun) (flight.Tun (Some 0) (52 ∷ 255 ∷ 0 ∷ 15 ∷ 0 ∷ 0 ∷ 1 ∷ 0 ∷ 0 ∷ 0 ∷ 0 ∷ 132 ∷ 2 ∷ 1 ∷ 0 ∷ 0 ∷ 0 ∷ 0 ∷ 0 ∷ 0 ∷ 128 ∷ 0 ∷ 170 ∷ [])) ∷ [])
     ∷ []
 
-control_pdu_passed_on_that_was_not_taken_is_wrong : breaks (a_header Nea0 0 (replicate 32 0)) (before_control_pdu_passed_on_that_was_not_taken ++ 
+control_pdu_passed_on_that_was_not_taken_is_wrong : breaks (a_header Nea0 0 (replicate 32 0)) (before_control_pdu_passed_on_that_was_not_taken ++
     an_entry (event.Step (link M A Tun) 0) answer.Ok (line.Send (link A T Air) (flight.Air 1 2 0 (Some 0) (128 ∷ 0 ∷ 170 ∷ [])) ∷ line.Send (link A T Air) (flight.Air 1 2 1 None (0 ∷ 0 ∷ 0 ∷ 0 ∷ 0 ∷ [])) ∷ [])
     ∷ []) ≡ licensed ∷ []
 unfolding sn window modulus distance count_for data_pdu decoded read_data read_report keystream counter_block stream_blocks report_pdu
 control_pdu_passed_on_that_was_not_taken_is_wrong = refl
 
-control_pdu_passed_on_that_was_not_taken_is_right : breaks (a_header Nea0 0 (replicate 32 0)) (before_control_pdu_passed_on_that_was_not_taken ++ 
+control_pdu_passed_on_that_was_not_taken_is_right : breaks (a_header Nea0 0 (replicate 32 0)) (before_control_pdu_passed_on_that_was_not_taken ++
     an_entry (event.Step (link M A Tun) 0) answer.Ok (line.Send (link A T Air) (flight.Air 1 2 0 (Some 0) (128 ∷ 0 ∷ 170 ∷ [])) ∷ [])
     ∷ []) ≡ []
 unfolding sn window modulus distance count_for data_pdu decoded read_data read_report keystream counter_block stream_blocks report_pdu
@@ -506,49 +506,49 @@ before_copy_of_again_is_another_flight =
     ∷ an_entry (event.Submit 1 Dl (187 ∷ [])) answer.Ok (line.Send (link M A Tun) (flight.Tun (Some 1) (52 ∷ 255 ∷ 0 ∷ 15 ∷ 0 ∷ 0 ∷ 1 ∷ 0 ∷ 0 ∷ 0 ∷ 0 ∷ 132 ∷ 2 ∷ 1 ∷ 0 ∷ 0 ∷ 1 ∷ 0 ∷ 0 ∷ 0 ∷ 128 ∷ 1 ∷ 187 ∷ [])) ∷ [])
     ∷ []
 
-copy_of_again_is_another_flight_is_wrong : breaks (a_header Nea0 0 (replicate 32 0)) (before_copy_of_again_is_another_flight ++ 
+copy_of_again_is_another_flight_is_wrong : breaks (a_header Nea0 0 (replicate 32 0)) (before_copy_of_again_is_another_flight ++
     an_entry (event.Again (link M A Tun) 0) answer.Ok (line.Send (link M A Tun) (flight.Tun (Some 1) (52 ∷ 255 ∷ 0 ∷ 15 ∷ 0 ∷ 0 ∷ 1 ∷ 0 ∷ 0 ∷ 0 ∷ 0 ∷ 132 ∷ 2 ∷ 1 ∷ 0 ∷ 0 ∷ 1 ∷ 0 ∷ 0 ∷ 0 ∷ 128 ∷ 1 ∷ 187 ∷ [])) ∷ [])
     ∷ []) ≡ numbered ∷ licensed ∷ []
 unfolding sn window modulus distance count_for data_pdu decoded read_data read_report keystream counter_block stream_blocks report_pdu
 copy_of_again_is_another_flight_is_wrong = refl
 
-copy_of_again_is_another_flight_is_right : breaks (a_header Nea0 0 (replicate 32 0)) (before_copy_of_again_is_another_flight ++ 
+copy_of_again_is_another_flight_is_right : breaks (a_header Nea0 0 (replicate 32 0)) (before_copy_of_again_is_another_flight ++
     an_entry (event.Again (link M A Tun) 0) answer.Ok (line.Send (link M A Tun) (flight.Tun (Some 0) (52 ∷ 255 ∷ 0 ∷ 15 ∷ 0 ∷ 0 ∷ 1 ∷ 0 ∷ 0 ∷ 0 ∷ 0 ∷ 132 ∷ 2 ∷ 1 ∷ 0 ∷ 0 ∷ 0 ∷ 0 ∷ 0 ∷ 0 ∷ 128 ∷ 0 ∷ 170 ∷ [])) ∷ [])
     ∷ []) ≡ []
 unfolding sn window modulus distance count_for data_pdu decoded read_data read_report keystream counter_block stream_blocks report_pdu
 copy_of_again_is_another_flight_is_right = refl
 
-copy_of_again_with_another_tag_is_wrong : breaks (a_header Nea0 0 (replicate 32 0)) (before_copy_of_again_is_another_flight ++ 
+copy_of_again_with_another_tag_is_wrong : breaks (a_header Nea0 0 (replicate 32 0)) (before_copy_of_again_is_another_flight ++
     an_entry (event.Again (link M A Tun) 0) answer.Ok (line.Send (link M A Tun) (flight.Tun (Some 1) (52 ∷ 255 ∷ 0 ∷ 15 ∷ 0 ∷ 0 ∷ 1 ∷ 0 ∷ 0 ∷ 0 ∷ 0 ∷ 132 ∷ 2 ∷ 1 ∷ 0 ∷ 0 ∷ 0 ∷ 0 ∷ 0 ∷ 0 ∷ 128 ∷ 0 ∷ 170 ∷ [])) ∷ [])
     ∷ []) ≡ protected ∷ numbered ∷ licensed ∷ []
 unfolding sn window modulus distance count_for data_pdu decoded read_data read_report keystream counter_block stream_blocks report_pdu
 copy_of_again_with_another_tag_is_wrong = refl
 
-copy_of_again_with_another_tag_is_right : breaks (a_header Nea0 0 (replicate 32 0)) (before_copy_of_again_is_another_flight ++ 
+copy_of_again_with_another_tag_is_right : breaks (a_header Nea0 0 (replicate 32 0)) (before_copy_of_again_is_another_flight ++
     an_entry (event.Again (link M A Tun) 0) answer.Ok (line.Send (link M A Tun) (flight.Tun (Some 0) (52 ∷ 255 ∷ 0 ∷ 15 ∷ 0 ∷ 0 ∷ 1 ∷ 0 ∷ 0 ∷ 0 ∷ 0 ∷ 132 ∷ 2 ∷ 1 ∷ 0 ∷ 0 ∷ 0 ∷ 0 ∷ 0 ∷ 0 ∷ 128 ∷ 0 ∷ 170 ∷ [])) ∷ [])
     ∷ []) ≡ []
 unfolding sn window modulus distance count_for data_pdu decoded read_data read_report keystream counter_block stream_blocks report_pdu
 copy_of_again_with_another_tag_is_right = refl
 
-copy_without_an_again_is_wrong : breaks (a_header Nea0 0 (replicate 32 0)) (before_again_without_its_copy ++ 
+copy_without_an_again_is_wrong : breaks (a_header Nea0 0 (replicate 32 0)) (before_again_without_its_copy ++
     an_entry (event.Submit 1 Dl (187 ∷ [])) answer.Ok (line.Send (link M A Tun) (flight.Tun (Some 0) (52 ∷ 255 ∷ 0 ∷ 15 ∷ 0 ∷ 0 ∷ 1 ∷ 0 ∷ 0 ∷ 0 ∷ 0 ∷ 132 ∷ 2 ∷ 1 ∷ 0 ∷ 0 ∷ 0 ∷ 0 ∷ 0 ∷ 0 ∷ 128 ∷ 0 ∷ 170 ∷ [])) ∷ line.Send (link M A Tun) (flight.Tun (Some 1) (52 ∷ 255 ∷ 0 ∷ 15 ∷ 0 ∷ 0 ∷ 1 ∷ 0 ∷ 0 ∷ 0 ∷ 0 ∷ 132 ∷ 2 ∷ 1 ∷ 0 ∷ 0 ∷ 1 ∷ 0 ∷ 0 ∷ 0 ∷ 128 ∷ 1 ∷ 187 ∷ [])) ∷ [])
     ∷ []) ≡ numbered ∷ licensed ∷ []
 unfolding sn window modulus distance count_for data_pdu decoded read_data read_report keystream counter_block stream_blocks report_pdu
 copy_without_an_again_is_wrong = refl
 
-copy_without_an_again_is_right : breaks (a_header Nea0 0 (replicate 32 0)) (before_again_without_its_copy ++ 
+copy_without_an_again_is_right : breaks (a_header Nea0 0 (replicate 32 0)) (before_again_without_its_copy ++
     an_entry (event.Submit 1 Dl (187 ∷ [])) answer.Ok (line.Send (link M A Tun) (flight.Tun (Some 1) (52 ∷ 255 ∷ 0 ∷ 15 ∷ 0 ∷ 0 ∷ 1 ∷ 0 ∷ 0 ∷ 0 ∷ 0 ∷ 132 ∷ 2 ∷ 1 ∷ 0 ∷ 0 ∷ 1 ∷ 0 ∷ 0 ∷ 0 ∷ 128 ∷ 1 ∷ 187 ∷ [])) ∷ [])
     ∷ []) ≡ []
 unfolding sn window modulus distance count_for data_pdu decoded read_data read_report keystream counter_block stream_blocks report_pdu
 copy_without_an_again_is_right = refl
 
-count_1_handed_up_before_count_0_is_wrong : breaks (a_header Nea0 0 (replicate 32 0)) (before_ack_of_another_num ++ 
+count_1_handed_up_before_count_0_is_wrong : breaks (a_header Nea0 0 (replicate 32 0)) (before_ack_of_another_num ++
     an_entry (event.Step (link M T Air) 1) answer.Ok (line.Note (note.Up T 1 Dl 1 (121 ∷ 111 ∷ [])) ∷ line.Send (link T M Air) (flight.Ack 1 1 1) ∷ [])
     ∷ []) ≡ front ∷ drained ∷ []
 unfolding sn window modulus distance count_for data_pdu decoded read_data read_report keystream counter_block stream_blocks report_pdu
 count_1_handed_up_before_count_0_is_wrong = refl
 
-count_1_handed_up_before_count_0_is_right : breaks (a_header Nea0 0 (replicate 32 0)) (before_ack_of_another_num ++ 
+count_1_handed_up_before_count_0_is_right : breaks (a_header Nea0 0 (replicate 32 0)) (before_ack_of_another_num ++
     an_entry (event.Step (link M T Air) 1) answer.Ok (line.Send (link T M Air) (flight.Ack 1 1 1) ∷ [])
     ∷ []) ≡ []
 unfolding sn window modulus distance count_for data_pdu decoded read_data read_report keystream counter_block stream_blocks report_pdu
@@ -567,13 +567,13 @@ before_count_handed_up_twice_over_a_rekey =
     ∷ an_entry (event.Step (link T M Ctl) 0) answer.Ok (line.Send (link M T Air) (flight.Air 1 2 0 (Some 0) (128 ∷ 0 ∷ 170 ∷ [])) ∷ line.Note note.Done ∷ [])
     ∷ []
 
-count_handed_up_twice_over_a_rekey_is_wrong : breaks (a_header Nea0 0 (replicate 32 0)) (before_count_handed_up_twice_over_a_rekey ++ 
+count_handed_up_twice_over_a_rekey_is_wrong : breaks (a_header Nea0 0 (replicate 32 0)) (before_count_handed_up_twice_over_a_rekey ++
     an_entry (event.Step (link M T Air) 0) answer.Ok (line.Note (note.Up T 1 Dl 0 (170 ∷ [])) ∷ line.Send (link T M Air) (flight.Ack 1 2 0) ∷ [])
     ∷ []) ≡ front ∷ windowed ∷ []
 unfolding sn window modulus distance count_for data_pdu decoded read_data read_report keystream counter_block stream_blocks report_pdu
 count_handed_up_twice_over_a_rekey_is_wrong = refl
 
-count_handed_up_twice_over_a_rekey_is_right : breaks (a_header Nea0 0 (replicate 32 0)) (before_count_handed_up_twice_over_a_rekey ++ 
+count_handed_up_twice_over_a_rekey_is_right : breaks (a_header Nea0 0 (replicate 32 0)) (before_count_handed_up_twice_over_a_rekey ++
     an_entry (event.Step (link M T Air) 0) answer.Ok (line.Send (link T M Air) (flight.Ack 1 2 0) ∷ [])
     ∷ []) ≡ []
 unfolding sn window modulus distance count_for data_pdu decoded read_data read_report keystream counter_block stream_blocks report_pdu
@@ -595,13 +595,13 @@ before_counter_0_again_after_a_rejection =
     ∷ an_entry (event.Step (link M A Ctl) 0) answer.Ok []
     ∷ []
 
-counter_0_again_after_a_rejection_is_wrong : breaks (a_header Nea0 0 (replicate 32 0)) (before_counter_0_again_after_a_rejection ++ 
+counter_0_again_after_a_rejection_is_wrong : breaks (a_header Nea0 0 (replicate 32 0)) (before_counter_0_again_after_a_rejection ++
     an_entry (event.Bearer 1 S12 0 (a_shape true Scg false) 0 0) answer.Ok (line.Send (link M A Ctl) (flight.Ctl (rec.Modreq (a_plan 3 (Some A) (Set 1 S12 0 (a_shape true Scg false) 0 0 (a_key 0 (SecondKey 0)) None ∷ [])) [])) ∷ [])
     ∷ []) ≡ planned ∷ []
 unfolding sn window modulus distance count_for data_pdu decoded read_data read_report keystream counter_block stream_blocks report_pdu
 counter_0_again_after_a_rejection_is_wrong = refl
 
-counter_0_again_after_a_rejection_is_right : breaks (a_header Nea0 0 (replicate 32 0)) (before_counter_0_again_after_a_rejection ++ 
+counter_0_again_after_a_rejection_is_right : breaks (a_header Nea0 0 (replicate 32 0)) (before_counter_0_again_after_a_rejection ++
     an_entry (event.Bearer 1 S12 0 (a_shape true Scg false) 0 0) answer.Ok (line.Send (link M A Ctl) (flight.Ctl (rec.Modreq (a_plan 3 (Some A) (Set 1 S12 0 (a_shape true Scg false) 0 0 (a_key 0 (SecondKey 1)) None ∷ [])) [])) ∷ [])
     ∷ []) ≡ []
 unfolding sn window modulus distance count_for data_pdu decoded read_data read_report keystream counter_block stream_blocks report_pdu
@@ -629,13 +629,13 @@ before_counter_0_again_after_a_release =
     ∷ an_entry (event.Step (link T M Ctl) 0) answer.Ok (line.Send (link M A Ctl) (flight.Ctl (rec.Recfg 3)) ∷ line.Note note.Done ∷ [])
     ∷ []
 
-counter_0_again_after_a_release_is_wrong : breaks (a_header Nea0 0 (replicate 32 0)) (before_counter_0_again_after_a_release ++ 
+counter_0_again_after_a_release_is_wrong : breaks (a_header Nea0 0 (replicate 32 0)) (before_counter_0_again_after_a_release ++
     an_entry (event.Bearer 1 S12 0 (a_shape true Scg false) 0 0) answer.Ok (line.Send (link M A Ctl) (flight.Ctl (rec.Modreq (a_plan 4 (Some A) (Set 1 S12 0 (a_shape true Scg false) 0 0 (a_key 0 (SecondKey 0)) None ∷ [])) [])) ∷ [])
     ∷ []) ≡ planned ∷ []
 unfolding sn window modulus distance count_for data_pdu decoded read_data read_report keystream counter_block stream_blocks report_pdu
 counter_0_again_after_a_release_is_wrong = refl
 
-counter_0_again_after_a_release_is_right : breaks (a_header Nea0 0 (replicate 32 0)) (before_counter_0_again_after_a_release ++ 
+counter_0_again_after_a_release_is_right : breaks (a_header Nea0 0 (replicate 32 0)) (before_counter_0_again_after_a_release ++
     an_entry (event.Bearer 1 S12 0 (a_shape true Scg false) 0 0) answer.Ok (line.Send (link M A Ctl) (flight.Ctl (rec.Modreq (a_plan 4 (Some A) (Set 1 S12 0 (a_shape true Scg false) 0 0 (a_key 0 (SecondKey 1)) None ∷ [])) [])) ∷ [])
     ∷ []) ≡ []
 unfolding sn window modulus distance count_for data_pdu decoded read_data read_report keystream counter_block stream_blocks report_pdu
@@ -658,13 +658,13 @@ before_counter_0_again_at_rekey_s =
     ∷ an_entry (event.Step (link M A Ctl) 0) answer.Ok []
     ∷ []
 
-counter_0_again_at_rekey_s_is_wrong : breaks (a_header Nea0 0 (replicate 32 0)) (before_counter_0_again_at_rekey_s ++ 
+counter_0_again_at_rekey_s_is_wrong : breaks (a_header Nea0 0 (replicate 32 0)) (before_counter_0_again_at_rekey_s ++
     an_entry (event.RekeySecond) answer.Ok (line.Send (link M A Ctl) (flight.Ctl (rec.Modreq (a_plan 3 (Some A) (Set 1 S12 0 (a_shape true Scg false) 0 0 (a_key 0 (SecondKey 0)) (Some A) ∷ [])) [])) ∷ [])
     ∷ []) ≡ planned ∷ []
 unfolding sn window modulus distance count_for data_pdu decoded read_data read_report keystream counter_block stream_blocks report_pdu
 counter_0_again_at_rekey_s_is_wrong = refl
 
-counter_0_again_at_rekey_s_is_right : breaks (a_header Nea0 0 (replicate 32 0)) (before_counter_0_again_at_rekey_s ++ 
+counter_0_again_at_rekey_s_is_right : breaks (a_header Nea0 0 (replicate 32 0)) (before_counter_0_again_at_rekey_s ++
     an_entry (event.RekeySecond) answer.Ok (line.Send (link M A Ctl) (flight.Ctl (rec.Modreq (a_plan 3 (Some A) (Set 1 S12 0 (a_shape true Scg false) 0 0 (a_key 0 (SecondKey 1)) (Some A) ∷ [])) [])) ∷ [])
     ∷ []) ≡ []
 unfolding sn window modulus distance count_for data_pdu decoded read_data read_report keystream counter_block stream_blocks report_pdu
@@ -681,25 +681,25 @@ before_counter_does_not_begin_at_used =
     ∷ an_entry (event.Step (link M A Ctl) 0) answer.Ok []
     ∷ []
 
-counter_does_not_begin_at_used_is_wrong : breaks (a_header Nea0 5 (replicate 32 0)) (before_counter_does_not_begin_at_used ++ 
+counter_does_not_begin_at_used_is_wrong : breaks (a_header Nea0 5 (replicate 32 0)) (before_counter_does_not_begin_at_used ++
     an_entry (event.Bearer 1 S12 0 (a_shape true Scg false) 0 0) answer.Ok (line.Send (link M A Ctl) (flight.Ctl (rec.Modreq (a_plan 2 (Some A) (Set 1 S12 0 (a_shape true Scg false) 0 0 (a_key 0 (SecondKey 0)) None ∷ [])) [])) ∷ [])
     ∷ []) ≡ planned ∷ []
 unfolding sn window modulus distance count_for data_pdu decoded read_data read_report keystream counter_block stream_blocks report_pdu
 counter_does_not_begin_at_used_is_wrong = refl
 
-counter_does_not_begin_at_used_is_right : breaks (a_header Nea0 5 (replicate 32 0)) (before_counter_does_not_begin_at_used ++ 
+counter_does_not_begin_at_used_is_right : breaks (a_header Nea0 5 (replicate 32 0)) (before_counter_does_not_begin_at_used ++
     an_entry (event.Bearer 1 S12 0 (a_shape true Scg false) 0 0) answer.Ok (line.Send (link M A Ctl) (flight.Ctl (rec.Modreq (a_plan 2 (Some A) (Set 1 S12 0 (a_shape true Scg false) 0 0 (a_key 0 (SecondKey 5)) None ∷ [])) [])) ∷ [])
     ∷ []) ≡ []
 unfolding sn window modulus distance count_for data_pdu decoded read_data read_report keystream counter_block stream_blocks report_pdu
 counter_does_not_begin_at_used_is_right = refl
 
-data_pdu_without_a_tag_is_wrong : breaks (a_header Nea0 0 (replicate 32 0)) (before_c2_handed_up_at_its_submission ++ 
+data_pdu_without_a_tag_is_wrong : breaks (a_header Nea0 0 (replicate 32 0)) (before_c2_handed_up_at_its_submission ++
     an_entry (event.Submit 1 Dl (104 ∷ 105 ∷ [])) answer.Ok (line.Send (link M T Air) (flight.Air 1 1 0 None (128 ∷ 0 ∷ 104 ∷ 105 ∷ [])) ∷ [])
     ∷ []) ≡ on_link ∷ protected ∷ licensed ∷ come ∷ []
 unfolding sn window modulus distance count_for data_pdu decoded read_data read_report keystream counter_block stream_blocks report_pdu
 data_pdu_without_a_tag_is_wrong = refl
 
-data_pdu_without_a_tag_is_right : breaks (a_header Nea0 0 (replicate 32 0)) (before_c2_handed_up_at_its_submission ++ 
+data_pdu_without_a_tag_is_right : breaks (a_header Nea0 0 (replicate 32 0)) (before_c2_handed_up_at_its_submission ++
     an_entry (event.Submit 1 Dl (104 ∷ 105 ∷ [])) answer.Ok (line.Send (link M T Air) (flight.Air 1 1 0 (Some 0) (128 ∷ 0 ∷ 104 ∷ 105 ∷ [])) ∷ [])
     ∷ []) ≡ []
 unfolding sn window modulus distance count_for data_pdu decoded read_data read_report keystream counter_block stream_blocks report_pdu
@@ -727,13 +727,13 @@ before_delivery_status_confirms_a_number_in_a_listed_gap =
     ∷ an_entry (event.Step (link T A Air) 0) answer.Ok (line.Send (link A M Tun) (flight.Tun (Some 1) (52 ∷ 255 ∷ 0 ∷ 20 ∷ 0 ∷ 0 ∷ 1 ∷ 0 ∷ 0 ∷ 0 ∷ 0 ∷ 132 ∷ 4 ∷ 17 ∷ 1 ∷ 0 ∷ 0 ∷ 1 ∷ 0 ∷ 0 ∷ 0 ∷ 0 ∷ 0 ∷ 0 ∷ 0 ∷ 0 ∷ 0 ∷ 0 ∷ [])) ∷ [])
     ∷ []
 
-delivery_status_confirms_a_number_in_a_listed_gap_is_wrong : breaks (a_header Nea0 0 (replicate 32 0)) (before_delivery_status_confirms_a_number_in_a_listed_gap ++ 
+delivery_status_confirms_a_number_in_a_listed_gap_is_wrong : breaks (a_header Nea0 0 (replicate 32 0)) (before_delivery_status_confirms_a_number_in_a_listed_gap ++
     an_entry (event.Step (link A M Tun) 0) answer.Ok (line.Note (note.Freed 1 Dl 2) ∷ line.Send (link M A Tun) (flight.Tun (Some 0) (52 ∷ 255 ∷ 0 ∷ 15 ∷ 0 ∷ 0 ∷ 1 ∷ 0 ∷ 0 ∷ 0 ∷ 0 ∷ 132 ∷ 2 ∷ 3 ∷ 0 ∷ 0 ∷ 2 ∷ 0 ∷ 0 ∷ 0 ∷ 128 ∷ 0 ∷ 170 ∷ [])) ∷ [])
     ∷ []) ≡ told ∷ []
 unfolding sn window modulus distance count_for data_pdu decoded read_data read_report keystream counter_block stream_blocks report_pdu
 delivery_status_confirms_a_number_in_a_listed_gap_is_wrong = refl
 
-delivery_status_confirms_a_number_in_a_listed_gap_is_right : breaks (a_header Nea0 0 (replicate 32 0)) (before_delivery_status_confirms_a_number_in_a_listed_gap ++ 
+delivery_status_confirms_a_number_in_a_listed_gap_is_right : breaks (a_header Nea0 0 (replicate 32 0)) (before_delivery_status_confirms_a_number_in_a_listed_gap ++
     an_entry (event.Step (link A M Tun) 0) answer.Ok (line.Send (link M A Tun) (flight.Tun (Some 0) (52 ∷ 255 ∷ 0 ∷ 15 ∷ 0 ∷ 0 ∷ 1 ∷ 0 ∷ 0 ∷ 0 ∷ 0 ∷ 132 ∷ 2 ∷ 3 ∷ 0 ∷ 0 ∷ 2 ∷ 0 ∷ 0 ∷ 0 ∷ 128 ∷ 0 ∷ 170 ∷ [])) ∷ [])
     ∷ []) ≡ []
 unfolding sn window modulus distance count_for data_pdu decoded read_data read_report keystream counter_block stream_blocks report_pdu
@@ -760,25 +760,25 @@ before_delivery_status_confirms_a_repeat =
     ∷ an_entry (event.Step (link T A Air) 0) answer.Ok (line.Send (link A M Tun) (flight.Tun None (52 ∷ 255 ∷ 0 ∷ 16 ∷ 0 ∷ 0 ∷ 1 ∷ 0 ∷ 0 ∷ 0 ∷ 0 ∷ 132 ∷ 3 ∷ 16 ∷ 1 ∷ 0 ∷ 0 ∷ 0 ∷ 0 ∷ 0 ∷ 0 ∷ 0 ∷ 0 ∷ 0 ∷ [])) ∷ [])
     ∷ []
 
-delivery_status_confirms_a_repeat_is_wrong : breaks (a_header Nea0 0 (replicate 32 0)) (before_delivery_status_confirms_a_repeat ++ 
+delivery_status_confirms_a_repeat_is_wrong : breaks (a_header Nea0 0 (replicate 32 0)) (before_delivery_status_confirms_a_repeat ++
     an_entry (event.Step (link A M Tun) 0) answer.Ok (line.Note (note.Freed 1 Dl 1) ∷ line.Send (link M A Tun) (flight.Tun (Some 0) (52 ∷ 255 ∷ 0 ∷ 15 ∷ 0 ∷ 0 ∷ 1 ∷ 0 ∷ 0 ∷ 0 ∷ 0 ∷ 132 ∷ 2 ∷ 3 ∷ 0 ∷ 0 ∷ 2 ∷ 0 ∷ 0 ∷ 0 ∷ 128 ∷ 0 ∷ 170 ∷ [])) ∷ [])
     ∷ []) ≡ told ∷ []
 unfolding sn window modulus distance count_for data_pdu decoded read_data read_report keystream counter_block stream_blocks report_pdu
 delivery_status_confirms_a_repeat_is_wrong = refl
 
-delivery_status_confirms_a_repeat_is_right : breaks (a_header Nea0 0 (replicate 32 0)) (before_delivery_status_confirms_a_repeat ++ 
+delivery_status_confirms_a_repeat_is_right : breaks (a_header Nea0 0 (replicate 32 0)) (before_delivery_status_confirms_a_repeat ++
     an_entry (event.Step (link A M Tun) 0) answer.Ok (line.Send (link M A Tun) (flight.Tun (Some 0) (52 ∷ 255 ∷ 0 ∷ 15 ∷ 0 ∷ 0 ∷ 1 ∷ 0 ∷ 0 ∷ 0 ∷ 0 ∷ 132 ∷ 2 ∷ 3 ∷ 0 ∷ 0 ∷ 2 ∷ 0 ∷ 0 ∷ 0 ∷ 128 ∷ 0 ∷ 170 ∷ [])) ∷ [])
     ∷ []) ≡ []
 unfolding sn window modulus distance count_for data_pdu decoded read_data read_report keystream counter_block stream_blocks report_pdu
 delivery_status_confirms_a_repeat_is_right = refl
 
-delivery_status_missing_is_wrong : breaks (a_header Nea0 0 (replicate 32 0)) (before_ack_taken_by_the_host_confirms_at_the_anchor ++ 
+delivery_status_missing_is_wrong : breaks (a_header Nea0 0 (replicate 32 0)) (before_ack_taken_by_the_host_confirms_at_the_anchor ++
     an_entry (event.Step (link T A Air) 0) answer.Ok []
     ∷ []) ≡ []
 unfolding sn window modulus distance count_for data_pdu decoded read_data read_report keystream counter_block stream_blocks report_pdu
 delivery_status_missing_is_wrong = refl
 
-delivery_status_missing_is_right : breaks (a_header Nea0 0 (replicate 32 0)) (before_ack_taken_by_the_host_confirms_at_the_anchor ++ 
+delivery_status_missing_is_right : breaks (a_header Nea0 0 (replicate 32 0)) (before_ack_taken_by_the_host_confirms_at_the_anchor ++
     an_entry (event.Step (link T A Air) 0) answer.Ok (line.Send (link A M Tun) (flight.Tun (Some 0) (52 ∷ 255 ∷ 0 ∷ 12 ∷ 0 ∷ 0 ∷ 1 ∷ 0 ∷ 0 ∷ 0 ∷ 0 ∷ 132 ∷ 2 ∷ 17 ∷ 0 ∷ 0 ∷ 0 ∷ 0 ∷ 0 ∷ 0 ∷ [])) ∷ [])
     ∷ []) ≡ []
 unfolding sn window modulus distance count_for data_pdu decoded read_data read_report keystream counter_block stream_blocks report_pdu
@@ -806,13 +806,13 @@ before_delivery_status_names_a_number_not_acked =
     ∷ an_entry (event.Step (link A T Air) 0) answer.Ok (line.Note (note.Up T 1 Dl 0 (170 ∷ [])) ∷ line.Send (link T A Air) (flight.Ack 1 2 0) ∷ [])
     ∷ []
 
-delivery_status_names_a_number_not_acked_is_wrong : breaks (a_header Nea0 0 (replicate 32 0)) (before_delivery_status_names_a_number_not_acked ++ 
+delivery_status_names_a_number_not_acked_is_wrong : breaks (a_header Nea0 0 (replicate 32 0)) (before_delivery_status_names_a_number_not_acked ++
     an_entry (event.Step (link T A Air) 0) answer.Ok (line.Send (link A M Tun) (flight.Tun (Some 1) (52 ∷ 255 ∷ 0 ∷ 12 ∷ 0 ∷ 0 ∷ 1 ∷ 0 ∷ 0 ∷ 0 ∷ 0 ∷ 132 ∷ 2 ∷ 17 ∷ 0 ∷ 0 ∷ 0 ∷ 1 ∷ 0 ∷ 0 ∷ [])) ∷ [])
     ∷ []) ≡ []
 unfolding sn window modulus distance count_for data_pdu decoded read_data read_report keystream counter_block stream_blocks report_pdu
 delivery_status_names_a_number_not_acked_is_wrong = refl
 
-delivery_status_names_a_number_not_acked_is_right : breaks (a_header Nea0 0 (replicate 32 0)) (before_delivery_status_names_a_number_not_acked ++ 
+delivery_status_names_a_number_not_acked_is_right : breaks (a_header Nea0 0 (replicate 32 0)) (before_delivery_status_names_a_number_not_acked ++
     an_entry (event.Step (link T A Air) 0) answer.Ok (line.Send (link A M Tun) (flight.Tun (Some 0) (52 ∷ 255 ∷ 0 ∷ 12 ∷ 0 ∷ 0 ∷ 1 ∷ 0 ∷ 0 ∷ 0 ∷ 0 ∷ 132 ∷ 2 ∷ 17 ∷ 0 ∷ 0 ∷ 0 ∷ 0 ∷ 0 ∷ 0 ∷ [])) ∷ [])
     ∷ []) ≡ []
 unfolding sn window modulus distance count_for data_pdu decoded read_data read_report keystream counter_block stream_blocks report_pdu
@@ -839,25 +839,25 @@ before_delivery_status_that_confirms_gives_no_freed =
     ∷ an_entry (event.Step (link T A Air) 0) answer.Ok (line.Send (link A M Tun) (flight.Tun (Some 0) (52 ∷ 255 ∷ 0 ∷ 12 ∷ 0 ∷ 0 ∷ 1 ∷ 0 ∷ 0 ∷ 0 ∷ 0 ∷ 132 ∷ 2 ∷ 17 ∷ 0 ∷ 0 ∷ 0 ∷ 0 ∷ 0 ∷ 0 ∷ [])) ∷ [])
     ∷ []
 
-delivery_status_that_confirms_gives_no_freed_is_wrong : breaks (a_header Nea0 0 (replicate 32 0)) (before_delivery_status_that_confirms_gives_no_freed ++ 
+delivery_status_that_confirms_gives_no_freed_is_wrong : breaks (a_header Nea0 0 (replicate 32 0)) (before_delivery_status_that_confirms_gives_no_freed ++
     an_entry (event.Step (link A M Tun) 0) answer.Ok []
     ∷ []) ≡ told ∷ []
 unfolding sn window modulus distance count_for data_pdu decoded read_data read_report keystream counter_block stream_blocks report_pdu
 delivery_status_that_confirms_gives_no_freed_is_wrong = refl
 
-delivery_status_that_confirms_gives_no_freed_is_right : breaks (a_header Nea0 0 (replicate 32 0)) (before_delivery_status_that_confirms_gives_no_freed ++ 
+delivery_status_that_confirms_gives_no_freed_is_right : breaks (a_header Nea0 0 (replicate 32 0)) (before_delivery_status_that_confirms_gives_no_freed ++
     an_entry (event.Step (link A M Tun) 0) answer.Ok (line.Note (note.Freed 1 Dl 1) ∷ [])
     ∷ []) ≡ []
 unfolding sn window modulus distance count_for data_pdu decoded read_data read_report keystream counter_block stream_blocks report_pdu
 delivery_status_that_confirms_gives_no_freed_is_right = refl
 
-delivery_status_without_an_ack_is_wrong : breaks (a_header Nea0 0 (replicate 32 0)) (before_control_pdu_passed_on_that_was_not_taken ++ 
+delivery_status_without_an_ack_is_wrong : breaks (a_header Nea0 0 (replicate 32 0)) (before_control_pdu_passed_on_that_was_not_taken ++
     an_entry (event.Step (link M A Tun) 0) answer.Ok (line.Send (link A T Air) (flight.Air 1 2 0 (Some 0) (128 ∷ 0 ∷ 170 ∷ [])) ∷ line.Send (link A M Tun) (flight.Tun None (52 ∷ 255 ∷ 0 ∷ 8 ∷ 0 ∷ 0 ∷ 1 ∷ 0 ∷ 0 ∷ 0 ∷ 0 ∷ 132 ∷ 1 ∷ 16 ∷ 0 ∷ 0 ∷ [])) ∷ [])
     ∷ []) ≡ licensed ∷ []
 unfolding sn window modulus distance count_for data_pdu decoded read_data read_report keystream counter_block stream_blocks report_pdu
 delivery_status_without_an_ack_is_wrong = refl
 
-delivery_status_without_an_ack_is_right : breaks (a_header Nea0 0 (replicate 32 0)) (before_control_pdu_passed_on_that_was_not_taken ++ 
+delivery_status_without_an_ack_is_right : breaks (a_header Nea0 0 (replicate 32 0)) (before_control_pdu_passed_on_that_was_not_taken ++
     an_entry (event.Step (link M A Tun) 0) answer.Ok (line.Send (link A T Air) (flight.Air 1 2 0 (Some 0) (128 ∷ 0 ∷ 170 ∷ [])) ∷ [])
     ∷ []) ≡ []
 unfolding sn window modulus distance count_for data_pdu decoded read_data read_report keystream counter_block stream_blocks report_pdu
@@ -884,13 +884,13 @@ before_delivery_status_without_its_gap =
     ∷ an_entry (event.Step (link A T Air) 0) answer.Ok (line.Send (link T A Air) (flight.Ack 1 2 0) ∷ [])
     ∷ []
 
-delivery_status_without_its_gap_is_wrong : breaks (a_header Nea0 0 (replicate 32 0)) (before_delivery_status_without_its_gap ++ 
+delivery_status_without_its_gap_is_wrong : breaks (a_header Nea0 0 (replicate 32 0)) (before_delivery_status_without_its_gap ++
     an_entry (event.Step (link T A Air) 0) answer.Ok (line.Send (link A M Tun) (flight.Tun (Some 1) (52 ∷ 255 ∷ 0 ∷ 12 ∷ 0 ∷ 0 ∷ 1 ∷ 0 ∷ 0 ∷ 0 ∷ 0 ∷ 132 ∷ 2 ∷ 17 ∷ 0 ∷ 0 ∷ 0 ∷ 1 ∷ 0 ∷ 0 ∷ [])) ∷ [])
     ∷ []) ≡ []
 unfolding sn window modulus distance count_for data_pdu decoded read_data read_report keystream counter_block stream_blocks report_pdu
 delivery_status_without_its_gap_is_wrong = refl
 
-delivery_status_without_its_gap_is_right : breaks (a_header Nea0 0 (replicate 32 0)) (before_delivery_status_without_its_gap ++ 
+delivery_status_without_its_gap_is_right : breaks (a_header Nea0 0 (replicate 32 0)) (before_delivery_status_without_its_gap ++
     an_entry (event.Step (link T A Air) 0) answer.Ok (line.Send (link A M Tun) (flight.Tun (Some 1) (52 ∷ 255 ∷ 0 ∷ 20 ∷ 0 ∷ 0 ∷ 1 ∷ 0 ∷ 0 ∷ 0 ∷ 0 ∷ 132 ∷ 4 ∷ 17 ∷ 1 ∷ 0 ∷ 0 ∷ 1 ∷ 0 ∷ 0 ∷ 0 ∷ 0 ∷ 0 ∷ 0 ∷ 0 ∷ 0 ∷ 0 ∷ 0 ∷ [])) ∷ [])
     ∷ []) ≡ []
 unfolding sn window modulus distance count_for data_pdu decoded read_data read_report keystream counter_block stream_blocks report_pdu
@@ -902,13 +902,13 @@ before_dl_of_an_unknown_identity_answered_ok =
     an_entry (event.Bearer 1 S12 0 (a_shape false Mcg false) 0 0) answer.Ok (line.Note (note.Own M 1 1) ∷ line.Send (link M T Ctl) (flight.Ctl (rec.Reconf (a_plan 1 None (Set 1 S12 0 (a_shape false Mcg false) 0 0 (a_key 0 Master) None ∷ [])) [])) ∷ [])
     ∷ []
 
-dl_of_an_unknown_identity_answered_ok_is_wrong : breaks (a_header Nea0 0 (replicate 32 0)) (before_dl_of_an_unknown_identity_answered_ok ++ 
+dl_of_an_unknown_identity_answered_ok_is_wrong : breaks (a_header Nea0 0 (replicate 32 0)) (before_dl_of_an_unknown_identity_answered_ok ++
     an_entry (event.Submit 5 Dl (255 ∷ 255 ∷ [])) answer.Ok []
     ∷ []) ≡ cause ∷ []
 unfolding sn window modulus distance count_for data_pdu decoded read_data read_report keystream counter_block stream_blocks report_pdu
 dl_of_an_unknown_identity_answered_ok_is_wrong = refl
 
-dl_of_an_unknown_identity_answered_ok_is_right : breaks (a_header Nea0 0 (replicate 32 0)) (before_dl_of_an_unknown_identity_answered_ok ++ 
+dl_of_an_unknown_identity_answered_ok_is_right : breaks (a_header Nea0 0 (replicate 32 0)) (before_dl_of_an_unknown_identity_answered_ok ++
     an_entry (event.Submit 5 Dl (255 ∷ 255 ∷ [])) (answer.No refusal.NoBearer) []
     ∷ []) ≡ []
 unfolding sn window modulus distance count_for data_pdu decoded read_data read_report keystream counter_block stream_blocks report_pdu
@@ -932,13 +932,13 @@ before_done_before_the_move_is_adopted =
     ∷ an_entry (event.Step (link M T Ctl) 0) answer.Ok (line.Note (note.Set 1 3) ∷ line.Send (link T M Ctl) (flight.Ctl (rec.Rcomp 3)) ∷ [])
     ∷ []
 
-done_before_the_move_is_adopted_is_wrong : breaks (a_header Nea0 0 (replicate 32 0)) (before_done_before_the_move_is_adopted ++ 
+done_before_the_move_is_adopted_is_wrong : breaks (a_header Nea0 0 (replicate 32 0)) (before_done_before_the_move_is_adopted ++
     an_entry (event.Step (link T M Ctl) 0) answer.Ok (line.Send (link M A Ctl) (flight.Ctl (rec.Recfg 3)) ∷ line.Note note.Done ∷ [])
     ∷ []) ≡ placed ∷ []
 unfolding sn window modulus distance count_for data_pdu decoded read_data read_report keystream counter_block stream_blocks report_pdu
 done_before_the_move_is_adopted_is_wrong = refl
 
-done_before_the_move_is_adopted_is_right : breaks (a_header Nea0 0 (replicate 32 0)) (before_done_before_the_move_is_adopted ++ 
+done_before_the_move_is_adopted_is_right : breaks (a_header Nea0 0 (replicate 32 0)) (before_done_before_the_move_is_adopted ++
     an_entry (event.Step (link T M Ctl) 0) answer.Ok (line.Send (link M A Ctl) (flight.Ctl (rec.Recfg 3)) ∷ [])
     ∷ []) ≡ []
 unfolding sn window modulus distance count_for data_pdu decoded read_data read_report keystream counter_block stream_blocks report_pdu
@@ -956,25 +956,25 @@ done_before_the_terminal_answered_is_right : breaks (a_header Nea0 0 (replicate 
 unfolding sn window modulus distance count_for data_pdu decoded read_data read_report keystream counter_block stream_blocks report_pdu
 done_before_the_terminal_answered_is_right = refl
 
-downlink_up_at_node_b_is_wrong : breaks (a_header Nea0 0 (replicate 32 0)) (before_c1_up_line_with_an_altered_payload ++ 
+downlink_up_at_node_b_is_wrong : breaks (a_header Nea0 0 (replicate 32 0)) (before_c1_up_line_with_an_altered_payload ++
     an_entry (event.Step (link M T Air) 0) answer.Ok (line.Note (note.Up B 1 Dl 0 (104 ∷ 105 ∷ [])) ∷ line.Send (link T M Air) (flight.Ack 1 1 0) ∷ [])
     ∷ []) ≡ carried ∷ holder ∷ []
 unfolding sn window modulus distance count_for data_pdu decoded read_data read_report keystream counter_block stream_blocks report_pdu
 downlink_up_at_node_b_is_wrong = refl
 
-downlink_up_at_node_b_is_right : breaks (a_header Nea0 0 (replicate 32 0)) (before_c1_up_line_with_an_altered_payload ++ 
+downlink_up_at_node_b_is_right : breaks (a_header Nea0 0 (replicate 32 0)) (before_c1_up_line_with_an_altered_payload ++
     an_entry (event.Step (link M T Air) 0) answer.Ok (line.Note (note.Up T 1 Dl 0 (104 ∷ 105 ∷ [])) ∷ line.Send (link T M Air) (flight.Ack 1 1 0) ∷ [])
     ∷ []) ≡ []
 unfolding sn window modulus distance count_for data_pdu decoded read_data read_report keystream counter_block stream_blocks report_pdu
 downlink_up_at_node_b_is_right = refl
 
-downlink_up_when_only_the_host_took_it_is_wrong : breaks (a_header Nea0 0 (replicate 32 0)) (before_control_pdu_passed_on_that_was_not_taken ++ 
+downlink_up_when_only_the_host_took_it_is_wrong : breaks (a_header Nea0 0 (replicate 32 0)) (before_control_pdu_passed_on_that_was_not_taken ++
     an_entry (event.Step (link M A Tun) 0) answer.Ok (line.Note (note.Up T 1 Dl 0 (170 ∷ [])) ∷ line.Send (link A T Air) (flight.Air 1 2 0 (Some 0) (128 ∷ 0 ∷ 170 ∷ [])) ∷ [])
     ∷ []) ≡ carried ∷ []
 unfolding sn window modulus distance count_for data_pdu decoded read_data read_report keystream counter_block stream_blocks report_pdu
 downlink_up_when_only_the_host_took_it_is_wrong = refl
 
-downlink_up_when_only_the_host_took_it_is_right : breaks (a_header Nea0 0 (replicate 32 0)) (before_control_pdu_passed_on_that_was_not_taken ++ 
+downlink_up_when_only_the_host_took_it_is_right : breaks (a_header Nea0 0 (replicate 32 0)) (before_control_pdu_passed_on_that_was_not_taken ++
     an_entry (event.Step (link M A Tun) 0) answer.Ok (line.Send (link A T Air) (flight.Air 1 2 0 (Some 0) (128 ∷ 0 ∷ 170 ∷ [])) ∷ [])
     ∷ []) ≡ []
 unfolding sn window modulus distance count_for data_pdu decoded read_data read_report keystream counter_block stream_blocks report_pdu
@@ -991,13 +991,13 @@ before_dropped_identity_claims_the_same_key_without_traffic =
     ∷ an_entry (event.Step (link T M Ctl) 0) answer.Ok (line.Note note.Done ∷ [])
     ∷ []
 
-dropped_identity_claims_the_same_key_without_traffic_is_wrong : breaks (a_header Nea0 0 (replicate 32 0)) (before_dropped_identity_claims_the_same_key_without_traffic ++ 
+dropped_identity_claims_the_same_key_without_traffic_is_wrong : breaks (a_header Nea0 0 (replicate 32 0)) (before_dropped_identity_claims_the_same_key_without_traffic ++
     an_entry (event.Bearer 1 S12 0 (a_shape false Mcg false) 0 0) answer.Ok (line.Note (note.Own M 1 3) ∷ line.Send (link M T Ctl) (flight.Ctl (rec.Reconf (a_plan 3 None (Set 1 S12 0 (a_shape false Mcg false) 0 0 (a_key 0 Master) None ∷ [])) [])) ∷ [])
     ∷ []) ≡ one_use ∷ cause ∷ []
 unfolding sn window modulus distance count_for data_pdu decoded read_data read_report keystream counter_block stream_blocks report_pdu
 dropped_identity_claims_the_same_key_without_traffic_is_wrong = refl
 
-dropped_identity_claims_the_same_key_without_traffic_is_right : breaks (a_header Nea0 0 (replicate 32 0)) (before_dropped_identity_claims_the_same_key_without_traffic ++ 
+dropped_identity_claims_the_same_key_without_traffic_is_right : breaks (a_header Nea0 0 (replicate 32 0)) (before_dropped_identity_claims_the_same_key_without_traffic ++
     an_entry (event.Bearer 1 S12 0 (a_shape false Mcg false) 0 0) (answer.No refusal.IdSpent) []
     ∷ []) ≡ []
 unfolding sn window modulus distance count_for data_pdu decoded read_data read_report keystream counter_block stream_blocks report_pdu
@@ -1015,7 +1015,7 @@ before_dropped_identity_comes_back_under_the_same_key =
     ∷ an_entry (event.Step (link T M Ctl) 0) answer.Ok (line.Note note.Done ∷ [])
     ∷ []
 
-dropped_identity_comes_back_under_the_same_key_is_wrong : breaks (a_header Nea0 0 (replicate 32 0)) (before_dropped_identity_comes_back_under_the_same_key ++ 
+dropped_identity_comes_back_under_the_same_key_is_wrong : breaks (a_header Nea0 0 (replicate 32 0)) (before_dropped_identity_comes_back_under_the_same_key ++
     an_entry (event.Bearer 1 S12 0 (a_shape false Mcg false) 0 0) answer.Ok (line.Note (note.Own M 1 3) ∷ line.Send (link M T Ctl) (flight.Ctl (rec.Reconf (a_plan 3 None (Set 1 S12 0 (a_shape false Mcg false) 0 0 (a_key 0 Master) None ∷ [])) [])) ∷ [])
     ∷ an_entry (event.Step (link M T Ctl) 0) answer.Ok (line.Note (note.Set 1 3) ∷ line.Send (link T M Ctl) (flight.Ctl (rec.Rcomp 3)) ∷ [])
     ∷ an_entry (event.Step (link T M Ctl) 0) answer.Ok (line.Note note.Done ∷ [])
@@ -1024,7 +1024,7 @@ dropped_identity_comes_back_under_the_same_key_is_wrong : breaks (a_header Nea0 
 unfolding sn window modulus distance count_for data_pdu decoded read_data read_report keystream counter_block stream_blocks report_pdu
 dropped_identity_comes_back_under_the_same_key_is_wrong = refl
 
-dropped_identity_comes_back_under_the_same_key_is_right : breaks (a_header Nea0 0 (replicate 32 0)) (before_dropped_identity_comes_back_under_the_same_key ++ 
+dropped_identity_comes_back_under_the_same_key_is_right : breaks (a_header Nea0 0 (replicate 32 0)) (before_dropped_identity_comes_back_under_the_same_key ++
     an_entry (event.Bearer 1 S12 0 (a_shape false Mcg false) 0 0) (answer.No refusal.IdSpent) []
     ∷ []) ≡ []
 unfolding sn window modulus distance count_for data_pdu decoded read_data read_report keystream counter_block stream_blocks report_pdu
@@ -1037,49 +1037,49 @@ before_due_addrej_accepted =
     ∷ an_entry (event.Add A) answer.Ok (line.Send (link M A Ctl) (flight.Ctl (rec.Addreq (a_plan 1 (Some A) []) [])) ∷ [])
     ∷ []
 
-due_addrej_accepted_is_wrong : breaks (a_header Nea0 0 (replicate 32 0)) (before_due_addrej_accepted ++ 
+due_addrej_accepted_is_wrong : breaks (a_header Nea0 0 (replicate 32 0)) (before_due_addrej_accepted ++
     an_entry (event.Step (link M A Ctl) 0) answer.Ok (line.Note (note.Join A 1) ∷ line.Send (link A M Ctl) (flight.Ctl (rec.Addack 1)) ∷ [])
     ∷ []) ≡ licensed ∷ placed ∷ replied ∷ []
 unfolding sn window modulus distance count_for data_pdu decoded read_data read_report keystream counter_block stream_blocks report_pdu
 due_addrej_accepted_is_wrong = refl
 
-due_addrej_accepted_is_right : breaks (a_header Nea0 0 (replicate 32 0)) (before_due_addrej_accepted ++ 
+due_addrej_accepted_is_right : breaks (a_header Nea0 0 (replicate 32 0)) (before_due_addrej_accepted ++
     an_entry (event.Step (link M A Ctl) 0) answer.Ok (line.Send (link A M Ctl) (flight.Ctl (rec.Addrej 1)) ∷ [])
     ∷ []) ≡ []
 unfolding sn window modulus distance count_for data_pdu decoded read_data read_report keystream counter_block stream_blocks report_pdu
 due_addrej_accepted_is_right = refl
 
-due_bearerthere_answered_ok_is_wrong : breaks (a_header Nea0 0 (replicate 32 0)) (before_c2_handed_up_at_its_submission ++ 
+due_bearerthere_answered_ok_is_wrong : breaks (a_header Nea0 0 (replicate 32 0)) (before_c2_handed_up_at_its_submission ++
     an_entry (event.Bearer 1 S12 0 (a_shape false Mcg false) 0 0) answer.Ok (line.Note (note.Own M 1 2) ∷ line.Send (link M T Ctl) (flight.Ctl (rec.Reconf (a_plan 2 None (Set 1 S12 0 (a_shape false Mcg false) 0 0 (a_key 0 Master) None ∷ [])) [])) ∷ [])
     ∷ []) ≡ one_use ∷ cause ∷ []
 unfolding sn window modulus distance count_for data_pdu decoded read_data read_report keystream counter_block stream_blocks report_pdu
 due_bearerthere_answered_ok_is_wrong = refl
 
-due_bearerthere_answered_ok_is_right : breaks (a_header Nea0 0 (replicate 32 0)) (before_c2_handed_up_at_its_submission ++ 
+due_bearerthere_answered_ok_is_right : breaks (a_header Nea0 0 (replicate 32 0)) (before_c2_handed_up_at_its_submission ++
     an_entry (event.Bearer 1 S12 0 (a_shape false Mcg false) 0 0) (answer.No refusal.BearerThere) []
     ∷ []) ≡ []
 unfolding sn window modulus distance count_for data_pdu decoded read_data read_report keystream counter_block stream_blocks report_pdu
 due_bearerthere_answered_ok_is_right = refl
 
-due_bearerthere_answered_with_a_later_word_is_wrong : breaks (a_header Nea0 0 (replicate 32 0)) (before_c2_handed_up_at_its_submission ++ 
+due_bearerthere_answered_with_a_later_word_is_wrong : breaks (a_header Nea0 0 (replicate 32 0)) (before_c2_handed_up_at_its_submission ++
     an_entry (event.Bearer 1 S12 0 (a_shape true Scg false) 0 9) (answer.No refusal.NoPolicy) []
     ∷ []) ≡ cause ∷ []
 unfolding sn window modulus distance count_for data_pdu decoded read_data read_report keystream counter_block stream_blocks report_pdu
 due_bearerthere_answered_with_a_later_word_is_wrong = refl
 
-due_bearerthere_answered_with_a_later_word_is_right : breaks (a_header Nea0 0 (replicate 32 0)) (before_c2_handed_up_at_its_submission ++ 
+due_bearerthere_answered_with_a_later_word_is_right : breaks (a_header Nea0 0 (replicate 32 0)) (before_c2_handed_up_at_its_submission ++
     an_entry (event.Bearer 1 S12 0 (a_shape true Scg false) 0 9) (answer.No refusal.BearerThere) []
     ∷ []) ≡ []
 unfolding sn window modulus distance count_for data_pdu decoded read_data read_report keystream counter_block stream_blocks report_pdu
 due_bearerthere_answered_with_a_later_word_is_right = refl
 
-due_busy_answered_ok_is_wrong : breaks (a_header Nea0 0 (replicate 32 0)) (before_dl_of_an_unknown_identity_answered_ok ++ 
+due_busy_answered_ok_is_wrong : breaks (a_header Nea0 0 (replicate 32 0)) (before_dl_of_an_unknown_identity_answered_ok ++
     an_entry (event.Bearer 2 S12 0 (a_shape false Mcg false) 0 0) answer.Ok (line.Note (note.Own M 2 2) ∷ line.Send (link M T Ctl) (flight.Ctl (rec.Reconf (a_plan 2 None (Set 2 S12 0 (a_shape false Mcg false) 0 0 (a_key 0 Master) None ∷ [])) [])) ∷ [])
     ∷ []) ≡ cause ∷ []
 unfolding sn window modulus distance count_for data_pdu decoded read_data read_report keystream counter_block stream_blocks report_pdu
 due_busy_answered_ok_is_wrong = refl
 
-due_busy_answered_ok_is_right : breaks (a_header Nea0 0 (replicate 32 0)) (before_dl_of_an_unknown_identity_answered_ok ++ 
+due_busy_answered_ok_is_right : breaks (a_header Nea0 0 (replicate 32 0)) (before_dl_of_an_unknown_identity_answered_ok ++
     an_entry (event.Bearer 2 S12 0 (a_shape false Mcg false) 0 0) (answer.No refusal.Busy) []
     ∷ []) ≡ []
 unfolding sn window modulus distance count_for data_pdu decoded read_data read_report keystream counter_block stream_blocks report_pdu
@@ -1097,13 +1097,13 @@ before_due_busy_answered_with_a_later_word =
     ∷ an_entry (event.Bearer 1 S12 0 (a_shape false Mcg false) 0 0) answer.Ok (line.Note (note.Own M 1 2) ∷ line.Send (link M T Ctl) (flight.Ctl (rec.Reconf (a_plan 2 (Some A) (Set 1 S12 0 (a_shape false Mcg false) 0 0 (a_key 0 Master) None ∷ [])) [])) ∷ [])
     ∷ []
 
-due_busy_answered_with_a_later_word_is_wrong : breaks (a_header Nea0 0 (replicate 32 0)) (before_due_busy_answered_with_a_later_word ++ 
+due_busy_answered_with_a_later_word_is_wrong : breaks (a_header Nea0 0 (replicate 32 0)) (before_due_busy_answered_with_a_later_word ++
     an_entry (event.Add B) (answer.No refusal.SecondaryThere) []
     ∷ []) ≡ cause ∷ []
 unfolding sn window modulus distance count_for data_pdu decoded read_data read_report keystream counter_block stream_blocks report_pdu
 due_busy_answered_with_a_later_word_is_wrong = refl
 
-due_busy_answered_with_a_later_word_is_right : breaks (a_header Nea0 0 (replicate 32 0)) (before_due_busy_answered_with_a_later_word ++ 
+due_busy_answered_with_a_later_word_is_right : breaks (a_header Nea0 0 (replicate 32 0)) (before_due_busy_answered_with_a_later_word ++
     an_entry (event.Add B) (answer.No refusal.Busy) []
     ∷ []) ≡ []
 unfolding sn window modulus distance count_for data_pdu decoded read_data read_report keystream counter_block stream_blocks report_pdu
@@ -1121,13 +1121,13 @@ before_due_busy_of_want_answered_ok =
     ∷ an_entry (event.Ask A want.Rekey) answer.Ok (line.Send (link A M Ctl) (flight.Ctl (rec.Modrqd)) ∷ [])
     ∷ []
 
-due_busy_of_want_answered_ok_is_wrong : breaks (a_header Nea0 0 (replicate 32 0)) (before_due_busy_of_want_answered_ok ++ 
+due_busy_of_want_answered_ok_is_wrong : breaks (a_header Nea0 0 (replicate 32 0)) (before_due_busy_of_want_answered_ok ++
     an_entry (event.Ask A want.Change) answer.Ok (line.Send (link A M Ctl) (flight.Ctl (rec.Chgrqd)) ∷ [])
     ∷ []) ≡ cause ∷ []
 unfolding sn window modulus distance count_for data_pdu decoded read_data read_report keystream counter_block stream_blocks report_pdu
 due_busy_of_want_answered_ok_is_wrong = refl
 
-due_busy_of_want_answered_ok_is_right : breaks (a_header Nea0 0 (replicate 32 0)) (before_due_busy_of_want_answered_ok ++ 
+due_busy_of_want_answered_ok_is_right : breaks (a_header Nea0 0 (replicate 32 0)) (before_due_busy_of_want_answered_ok ++
     an_entry (event.Ask A want.Change) (answer.No refusal.Busy) []
     ∷ []) ≡ []
 unfolding sn window modulus distance count_for data_pdu decoded read_data read_report keystream counter_block stream_blocks report_pdu
@@ -1146,13 +1146,13 @@ before_due_chgref_busy_begun =
     ∷ an_entry (event.Bearer 1 S12 0 (a_shape false Mcg false) 0 0) answer.Ok (line.Note (note.Own M 1 2) ∷ line.Send (link M T Ctl) (flight.Ctl (rec.Reconf (a_plan 2 (Some A) (Set 1 S12 0 (a_shape false Mcg false) 0 0 (a_key 0 Master) None ∷ [])) [])) ∷ [])
     ∷ []
 
-due_chgref_busy_begun_is_wrong : breaks (a_header Nea0 0 (replicate 32 0)) (before_due_chgref_busy_begun ++ 
+due_chgref_busy_begun_is_wrong : breaks (a_header Nea0 0 (replicate 32 0)) (before_due_chgref_busy_begun ++
     an_entry (event.Step (link A M Ctl) 0) answer.Ok (line.Note (note.Begin want.Change) ∷ line.Send (link M B Ctl) (flight.Ctl (rec.Addreq (a_plan 3 (Some B) []) [])) ∷ [])
     ∷ []) ≡ placed ∷ replied ∷ []
 unfolding sn window modulus distance count_for data_pdu decoded read_data read_report keystream counter_block stream_blocks report_pdu
 due_chgref_busy_begun_is_wrong = refl
 
-due_chgref_busy_begun_is_right : breaks (a_header Nea0 0 (replicate 32 0)) (before_due_chgref_busy_begun ++ 
+due_chgref_busy_begun_is_right : breaks (a_header Nea0 0 (replicate 32 0)) (before_due_chgref_busy_begun ++
     an_entry (event.Step (link A M Ctl) 0) answer.Ok (line.Send (link M A Ctl) (flight.Ctl (rec.Chgref word.Busy)) ∷ [])
     ∷ []) ≡ []
 unfolding sn window modulus distance count_for data_pdu decoded read_data read_report keystream counter_block stream_blocks report_pdu
@@ -1170,13 +1170,13 @@ before_due_chgref_counterspent_begun =
     ∷ an_entry (event.Ask A want.Change) answer.Ok (line.Send (link A M Ctl) (flight.Ctl (rec.Chgrqd)) ∷ [])
     ∷ []
 
-due_chgref_counterspent_begun_is_wrong : breaks (a_header Nea0 65535 (replicate 32 0)) (before_due_chgref_counterspent_begun ++ 
+due_chgref_counterspent_begun_is_wrong : breaks (a_header Nea0 65535 (replicate 32 0)) (before_due_chgref_counterspent_begun ++
     an_entry (event.Step (link A M Ctl) 0) answer.Ok (line.Note (note.Begin want.Change) ∷ line.Send (link M B Ctl) (flight.Ctl (rec.Addreq (a_plan 2 (Some B) []) [])) ∷ [])
     ∷ []) ≡ placed ∷ replied ∷ []
 unfolding sn window modulus distance count_for data_pdu decoded read_data read_report keystream counter_block stream_blocks report_pdu
 due_chgref_counterspent_begun_is_wrong = refl
 
-due_chgref_counterspent_begun_is_right : breaks (a_header Nea0 65535 (replicate 32 0)) (before_due_chgref_counterspent_begun ++ 
+due_chgref_counterspent_begun_is_right : breaks (a_header Nea0 65535 (replicate 32 0)) (before_due_chgref_counterspent_begun ++
     an_entry (event.Step (link A M Ctl) 0) answer.Ok (line.Send (link M A Ctl) (flight.Ctl (rec.Chgref word.CounterSpent)) ∷ [])
     ∷ []) ≡ []
 unfolding sn window modulus distance count_for data_pdu decoded read_data read_report keystream counter_block stream_blocks report_pdu
@@ -1197,13 +1197,13 @@ before_due_chgref_nosecondary_missing =
     ∷ an_entry (event.Step (link B M Ctl) 0) answer.Ok (line.Send (link M T Ctl) (flight.Ctl (rec.Reconf (a_plan 2 (Some B) []) [])) ∷ line.Send (link M A Ctl) (flight.Ctl (rec.Relreq (a_plan 2 (Some B) []))) ∷ [])
     ∷ []
 
-due_chgref_nosecondary_missing_is_wrong : breaks (a_header Nea0 0 (replicate 32 0)) (before_due_chgref_nosecondary_missing ++ 
+due_chgref_nosecondary_missing_is_wrong : breaks (a_header Nea0 0 (replicate 32 0)) (before_due_chgref_nosecondary_missing ++
     an_entry (event.Step (link A M Ctl) 0) answer.Ok []
     ∷ []) ≡ replied ∷ []
 unfolding sn window modulus distance count_for data_pdu decoded read_data read_report keystream counter_block stream_blocks report_pdu
 due_chgref_nosecondary_missing_is_wrong = refl
 
-due_chgref_nosecondary_missing_is_right : breaks (a_header Nea0 0 (replicate 32 0)) (before_due_chgref_nosecondary_missing ++ 
+due_chgref_nosecondary_missing_is_right : breaks (a_header Nea0 0 (replicate 32 0)) (before_due_chgref_nosecondary_missing ++
     an_entry (event.Step (link A M Ctl) 0) answer.Ok (line.Send (link M A Ctl) (flight.Ctl (rec.Chgref word.NoSecondary)) ∷ [])
     ∷ []) ≡ []
 unfolding sn window modulus distance count_for data_pdu decoded read_data read_report keystream counter_block stream_blocks report_pdu
@@ -1224,13 +1224,13 @@ before_due_chgref_rejected_missing =
     ∷ an_entry (event.Step (link M B Ctl) 0) answer.Ok (line.Send (link B M Ctl) (flight.Ctl (rec.Addrej 2)) ∷ [])
     ∷ []
 
-due_chgref_rejected_missing_is_wrong : breaks (a_header Nea0 0 (replicate 32 0)) (before_due_chgref_rejected_missing ++ 
+due_chgref_rejected_missing_is_wrong : breaks (a_header Nea0 0 (replicate 32 0)) (before_due_chgref_rejected_missing ++
     an_entry (event.Step (link B M Ctl) 0) answer.Ok (line.Note note.Rejected ∷ [])
     ∷ []) ≡ replied ∷ unstalled ∷ []
 unfolding sn window modulus distance count_for data_pdu decoded read_data read_report keystream counter_block stream_blocks report_pdu
 due_chgref_rejected_missing_is_wrong = refl
 
-due_chgref_rejected_missing_is_right : breaks (a_header Nea0 0 (replicate 32 0)) (before_due_chgref_rejected_missing ++ 
+due_chgref_rejected_missing_is_right : breaks (a_header Nea0 0 (replicate 32 0)) (before_due_chgref_rejected_missing ++
     an_entry (event.Step (link B M Ctl) 0) answer.Ok (line.Send (link M A Ctl) (flight.Ctl (rec.Chgref word.Rejected)) ∷ line.Note note.Rejected ∷ [])
     ∷ []) ≡ []
 unfolding sn window modulus distance count_for data_pdu decoded read_data read_report keystream counter_block stream_blocks report_pdu
@@ -1248,13 +1248,13 @@ due_counterspent_answered_ok_is_right : breaks (a_header Nea0 65536 (replicate 3
 unfolding sn window modulus distance count_for data_pdu decoded read_data read_report keystream counter_block stream_blocks report_pdu
 due_counterspent_answered_ok_is_right = refl
 
-due_counterspent_of_rekey_s_answered_ok_is_wrong : breaks (a_header Nea0 65535 (replicate 32 0)) (before_counter_does_not_begin_at_used ++ 
+due_counterspent_of_rekey_s_answered_ok_is_wrong : breaks (a_header Nea0 65535 (replicate 32 0)) (before_counter_does_not_begin_at_used ++
     an_entry (event.RekeySecond) answer.Ok (line.Send (link M A Ctl) (flight.Ctl (rec.Modreq (a_plan 2 (Some A) []) [])) ∷ [])
     ∷ []) ≡ cause ∷ []
 unfolding sn window modulus distance count_for data_pdu decoded read_data read_report keystream counter_block stream_blocks report_pdu
 due_counterspent_of_rekey_s_answered_ok_is_wrong = refl
 
-due_counterspent_of_rekey_s_answered_ok_is_right : breaks (a_header Nea0 65535 (replicate 32 0)) (before_counter_does_not_begin_at_used ++ 
+due_counterspent_of_rekey_s_answered_ok_is_right : breaks (a_header Nea0 65535 (replicate 32 0)) (before_counter_does_not_begin_at_used ++
     an_entry (event.RekeySecond) (answer.No refusal.CounterSpent) []
     ∷ []) ≡ []
 unfolding sn window modulus distance count_for data_pdu decoded read_data read_report keystream counter_block stream_blocks report_pdu
@@ -1269,13 +1269,13 @@ before_due_exhausted_answered_ok =
     ∷ an_entry (event.Submit 1 Dl (0 ∷ [])) answer.Ok (line.Send (link M T Air) (flight.Air 1 1 0 (Some 4294967294) (143 ∷ 254 ∷ 0 ∷ [])) ∷ [])
     ∷ []
 
-due_exhausted_answered_ok_is_wrong : breaks (a_header Nea0 0 (replicate 32 0)) (before_due_exhausted_answered_ok ++ 
+due_exhausted_answered_ok_is_wrong : breaks (a_header Nea0 0 (replicate 32 0)) (before_due_exhausted_answered_ok ++
     an_entry (event.Submit 1 Dl (1 ∷ [])) answer.Ok (line.Send (link M T Air) (flight.Air 1 1 1 (Some 4294967295) (143 ∷ 255 ∷ 1 ∷ [])) ∷ [])
     ∷ []) ≡ cause ∷ []
 unfolding sn window modulus distance count_for data_pdu decoded read_data read_report keystream counter_block stream_blocks report_pdu
 due_exhausted_answered_ok_is_wrong = refl
 
-due_exhausted_answered_ok_is_right : breaks (a_header Nea0 0 (replicate 32 0)) (before_due_exhausted_answered_ok ++ 
+due_exhausted_answered_ok_is_right : breaks (a_header Nea0 0 (replicate 32 0)) (before_due_exhausted_answered_ok ++
     an_entry (event.Submit 1 Dl (1 ∷ [])) (answer.No refusal.Exhausted) []
     ∷ []) ≡ []
 unfolding sn window modulus distance count_for data_pdu decoded read_data read_report keystream counter_block stream_blocks report_pdu
@@ -1303,25 +1303,25 @@ before_due_idspent_of_release_answered_ok =
     ∷ an_entry (event.Step (link T M Ctl) 0) answer.Ok (line.Send (link M A Ctl) (flight.Ctl (rec.Recfg 4)) ∷ line.Note note.Done ∷ [])
     ∷ []
 
-due_idspent_of_release_answered_ok_is_wrong : breaks (a_header Nea0 0 (replicate 32 0)) (before_due_idspent_of_release_answered_ok ++ 
+due_idspent_of_release_answered_ok_is_wrong : breaks (a_header Nea0 0 (replicate 32 0)) (before_due_idspent_of_release_answered_ok ++
     an_entry (event.Release) answer.Ok (line.Send (link M A Ctl) (flight.Ctl (rec.Relreq (a_plan 5 None (Set 1 S12 0 (a_shape false Mcg false) 0 0 (a_key 0 Master) (Some A) ∷ [])))) ∷ [])
     ∷ []) ≡ cause ∷ []
 unfolding sn window modulus distance count_for data_pdu decoded read_data read_report keystream counter_block stream_blocks report_pdu
 due_idspent_of_release_answered_ok_is_wrong = refl
 
-due_idspent_of_release_answered_ok_is_right : breaks (a_header Nea0 0 (replicate 32 0)) (before_due_idspent_of_release_answered_ok ++ 
+due_idspent_of_release_answered_ok_is_right : breaks (a_header Nea0 0 (replicate 32 0)) (before_due_idspent_of_release_answered_ok ++
     an_entry (event.Release) (answer.No refusal.IdSpent) []
     ∷ []) ≡ []
 unfolding sn window modulus distance count_for data_pdu decoded read_data read_report keystream counter_block stream_blocks report_pdu
 due_idspent_of_release_answered_ok_is_right = refl
 
-due_idspent_of_shape_answered_ok_is_wrong : breaks (a_header Nea0 0 (replicate 32 0)) (before_due_idspent_of_release_answered_ok ++ 
+due_idspent_of_shape_answered_ok_is_wrong : breaks (a_header Nea0 0 (replicate 32 0)) (before_due_idspent_of_release_answered_ok ++
     an_entry (event.Reshape 1 (a_shape false Mcg false)) answer.Ok (line.Send (link M A Ctl) (flight.Ctl (rec.Modreq (a_plan 5 (Some A) (Set 1 S12 0 (a_shape false Mcg false) 0 0 (a_key 0 Master) (Some A) ∷ [])) [])) ∷ [])
     ∷ []) ≡ cause ∷ []
 unfolding sn window modulus distance count_for data_pdu decoded read_data read_report keystream counter_block stream_blocks report_pdu
 due_idspent_of_shape_answered_ok_is_wrong = refl
 
-due_idspent_of_shape_answered_ok_is_right : breaks (a_header Nea0 0 (replicate 32 0)) (before_due_idspent_of_release_answered_ok ++ 
+due_idspent_of_shape_answered_ok_is_right : breaks (a_header Nea0 0 (replicate 32 0)) (before_due_idspent_of_release_answered_ok ++
     an_entry (event.Reshape 1 (a_shape false Mcg false)) (answer.No refusal.IdSpent) []
     ∷ []) ≡ []
 unfolding sn window modulus distance count_for data_pdu decoded read_data read_report keystream counter_block stream_blocks report_pdu
@@ -1340,25 +1340,25 @@ before_due_modref_busy_begun =
     ∷ an_entry (event.Bearer 1 S12 0 (a_shape false Mcg false) 0 0) answer.Ok (line.Note (note.Own M 1 2) ∷ line.Send (link M T Ctl) (flight.Ctl (rec.Reconf (a_plan 2 (Some A) (Set 1 S12 0 (a_shape false Mcg false) 0 0 (a_key 0 Master) None ∷ [])) [])) ∷ [])
     ∷ []
 
-due_modref_busy_begun_is_wrong : breaks (a_header Nea0 0 (replicate 32 0)) (before_due_modref_busy_begun ++ 
+due_modref_busy_begun_is_wrong : breaks (a_header Nea0 0 (replicate 32 0)) (before_due_modref_busy_begun ++
     an_entry (event.Step (link A M Ctl) 0) answer.Ok (line.Note (note.Begin want.Rekey) ∷ line.Send (link M A Ctl) (flight.Ctl (rec.Modreq (a_plan 3 (Some A) []) [])) ∷ [])
     ∷ []) ≡ placed ∷ replied ∷ []
 unfolding sn window modulus distance count_for data_pdu decoded read_data read_report keystream counter_block stream_blocks report_pdu
 due_modref_busy_begun_is_wrong = refl
 
-due_modref_busy_begun_is_right : breaks (a_header Nea0 0 (replicate 32 0)) (before_due_modref_busy_begun ++ 
+due_modref_busy_begun_is_right : breaks (a_header Nea0 0 (replicate 32 0)) (before_due_modref_busy_begun ++
     an_entry (event.Step (link A M Ctl) 0) answer.Ok (line.Send (link M A Ctl) (flight.Ctl (rec.Modref word.Busy)) ∷ [])
     ∷ []) ≡ []
 unfolding sn window modulus distance count_for data_pdu decoded read_data read_report keystream counter_block stream_blocks report_pdu
 due_modref_busy_begun_is_right = refl
 
-due_modref_counterspent_begun_is_wrong : breaks (a_header Nea0 65535 (replicate 32 0)) (before_due_busy_of_want_answered_ok ++ 
+due_modref_counterspent_begun_is_wrong : breaks (a_header Nea0 65535 (replicate 32 0)) (before_due_busy_of_want_answered_ok ++
     an_entry (event.Step (link A M Ctl) 0) answer.Ok (line.Note (note.Begin want.Rekey) ∷ line.Send (link M A Ctl) (flight.Ctl (rec.Modreq (a_plan 2 (Some A) []) [])) ∷ [])
     ∷ []) ≡ placed ∷ replied ∷ []
 unfolding sn window modulus distance count_for data_pdu decoded read_data read_report keystream counter_block stream_blocks report_pdu
 due_modref_counterspent_begun_is_wrong = refl
 
-due_modref_counterspent_begun_is_right : breaks (a_header Nea0 65535 (replicate 32 0)) (before_due_busy_of_want_answered_ok ++ 
+due_modref_counterspent_begun_is_right : breaks (a_header Nea0 65535 (replicate 32 0)) (before_due_busy_of_want_answered_ok ++
     an_entry (event.Step (link A M Ctl) 0) answer.Ok (line.Send (link M A Ctl) (flight.Ctl (rec.Modref word.CounterSpent)) ∷ [])
     ∷ []) ≡ []
 unfolding sn window modulus distance count_for data_pdu decoded read_data read_report keystream counter_block stream_blocks report_pdu
@@ -1379,25 +1379,25 @@ before_due_modref_nosecondary_given_as_busy =
     ∷ an_entry (event.Step (link B M Ctl) 0) answer.Ok (line.Send (link M T Ctl) (flight.Ctl (rec.Reconf (a_plan 2 (Some B) []) [])) ∷ line.Send (link M A Ctl) (flight.Ctl (rec.Relreq (a_plan 2 (Some B) []))) ∷ [])
     ∷ []
 
-due_modref_nosecondary_given_as_busy_is_wrong : breaks (a_header Nea0 0 (replicate 32 0)) (before_due_modref_nosecondary_given_as_busy ++ 
+due_modref_nosecondary_given_as_busy_is_wrong : breaks (a_header Nea0 0 (replicate 32 0)) (before_due_modref_nosecondary_given_as_busy ++
     an_entry (event.Step (link A M Ctl) 0) answer.Ok (line.Send (link M A Ctl) (flight.Ctl (rec.Modref word.Busy)) ∷ [])
     ∷ []) ≡ licensed ∷ replied ∷ []
 unfolding sn window modulus distance count_for data_pdu decoded read_data read_report keystream counter_block stream_blocks report_pdu
 due_modref_nosecondary_given_as_busy_is_wrong = refl
 
-due_modref_nosecondary_given_as_busy_is_right : breaks (a_header Nea0 0 (replicate 32 0)) (before_due_modref_nosecondary_given_as_busy ++ 
+due_modref_nosecondary_given_as_busy_is_right : breaks (a_header Nea0 0 (replicate 32 0)) (before_due_modref_nosecondary_given_as_busy ++
     an_entry (event.Step (link A M Ctl) 0) answer.Ok (line.Send (link M A Ctl) (flight.Ctl (rec.Modref word.NoSecondary)) ∷ [])
     ∷ []) ≡ []
 unfolding sn window modulus distance count_for data_pdu decoded read_data read_report keystream counter_block stream_blocks report_pdu
 due_modref_nosecondary_given_as_busy_is_right = refl
 
-due_modref_nosecondary_missing_is_wrong : breaks (a_header Nea0 0 (replicate 32 0)) (before_due_modref_nosecondary_given_as_busy ++ 
+due_modref_nosecondary_missing_is_wrong : breaks (a_header Nea0 0 (replicate 32 0)) (before_due_modref_nosecondary_given_as_busy ++
     an_entry (event.Step (link A M Ctl) 0) answer.Ok []
     ∷ []) ≡ replied ∷ []
 unfolding sn window modulus distance count_for data_pdu decoded read_data read_report keystream counter_block stream_blocks report_pdu
 due_modref_nosecondary_missing_is_wrong = refl
 
-due_modref_nosecondary_missing_is_right : breaks (a_header Nea0 0 (replicate 32 0)) (before_due_modref_nosecondary_given_as_busy ++ 
+due_modref_nosecondary_missing_is_right : breaks (a_header Nea0 0 (replicate 32 0)) (before_due_modref_nosecondary_given_as_busy ++
     an_entry (event.Step (link A M Ctl) 0) answer.Ok (line.Send (link M A Ctl) (flight.Ctl (rec.Modref word.NoSecondary)) ∷ [])
     ∷ []) ≡ []
 unfolding sn window modulus distance count_for data_pdu decoded read_data read_report keystream counter_block stream_blocks report_pdu
@@ -1418,13 +1418,13 @@ before_due_modref_rejected_missing =
     ∷ an_entry (event.Step (link M A Ctl) 0) answer.Ok (line.Send (link A M Ctl) (flight.Ctl (rec.Modrej 2)) ∷ [])
     ∷ []
 
-due_modref_rejected_missing_is_wrong : breaks (a_header Nea0 0 (replicate 32 0)) (before_due_modref_rejected_missing ++ 
+due_modref_rejected_missing_is_wrong : breaks (a_header Nea0 0 (replicate 32 0)) (before_due_modref_rejected_missing ++
     an_entry (event.Step (link A M Ctl) 0) answer.Ok (line.Note note.Rejected ∷ [])
     ∷ []) ≡ replied ∷ unstalled ∷ []
 unfolding sn window modulus distance count_for data_pdu decoded read_data read_report keystream counter_block stream_blocks report_pdu
 due_modref_rejected_missing_is_wrong = refl
 
-due_modref_rejected_missing_is_right : breaks (a_header Nea0 0 (replicate 32 0)) (before_due_modref_rejected_missing ++ 
+due_modref_rejected_missing_is_right : breaks (a_header Nea0 0 (replicate 32 0)) (before_due_modref_rejected_missing ++
     an_entry (event.Step (link A M Ctl) 0) answer.Ok (line.Send (link M A Ctl) (flight.Ctl (rec.Modref word.Rejected)) ∷ line.Note note.Rejected ∷ [])
     ∷ []) ≡ []
 unfolding sn window modulus distance count_for data_pdu decoded read_data read_report keystream counter_block stream_blocks report_pdu
@@ -1443,13 +1443,13 @@ before_due_modrej_accepted =
     ∷ an_entry (event.Bearer 1 S12 0 (a_shape true Scg false) 0 0) answer.Ok (line.Send (link M A Ctl) (flight.Ctl (rec.Modreq (a_plan 2 (Some A) (Set 1 S12 0 (a_shape true Scg false) 0 0 (a_key 0 (SecondKey 0)) None ∷ [])) [])) ∷ [])
     ∷ []
 
-due_modrej_accepted_is_wrong : breaks (a_header Nea0 0 (replicate 32 0)) (before_due_modrej_accepted ++ 
+due_modrej_accepted_is_wrong : breaks (a_header Nea0 0 (replicate 32 0)) (before_due_modrej_accepted ++
     an_entry (event.Step (link M A Ctl) 0) answer.Ok (line.Note (note.Own A 1 2) ∷ line.Send (link A M Ctl) (flight.Ctl (rec.Modack 2)) ∷ [])
     ∷ []) ≡ licensed ∷ placed ∷ replied ∷ []
 unfolding sn window modulus distance count_for data_pdu decoded read_data read_report keystream counter_block stream_blocks report_pdu
 due_modrej_accepted_is_wrong = refl
 
-due_modrej_accepted_is_right : breaks (a_header Nea0 0 (replicate 32 0)) (before_due_modrej_accepted ++ 
+due_modrej_accepted_is_right : breaks (a_header Nea0 0 (replicate 32 0)) (before_due_modrej_accepted ++
     an_entry (event.Step (link M A Ctl) 0) answer.Ok (line.Send (link A M Ctl) (flight.Ctl (rec.Modrej 2)) ∷ [])
     ∷ []) ≡ []
 unfolding sn window modulus distance count_for data_pdu decoded read_data read_report keystream counter_block stream_blocks report_pdu
@@ -1464,13 +1464,13 @@ before_due_nobearer_after_drop_answered_ok =
     ∷ an_entry (event.Remove 1) answer.Ok (line.Send (link M T Ctl) (flight.Ctl (rec.Reconf (a_plan 2 None (Unset 1 ∷ [])) [])) ∷ [])
     ∷ []
 
-due_nobearer_after_drop_answered_ok_is_wrong : breaks (a_header Nea0 0 (replicate 32 0)) (before_due_nobearer_after_drop_answered_ok ++ 
+due_nobearer_after_drop_answered_ok_is_wrong : breaks (a_header Nea0 0 (replicate 32 0)) (before_due_nobearer_after_drop_answered_ok ++
     an_entry (event.Submit 1 Dl (0 ∷ [])) answer.Ok (line.Send (link M T Air) (flight.Air 1 1 0 (Some 0) (128 ∷ 0 ∷ 0 ∷ [])) ∷ [])
     ∷ []) ≡ holder ∷ cause ∷ []
 unfolding sn window modulus distance count_for data_pdu decoded read_data read_report keystream counter_block stream_blocks report_pdu
 due_nobearer_after_drop_answered_ok_is_wrong = refl
 
-due_nobearer_after_drop_answered_ok_is_right : breaks (a_header Nea0 0 (replicate 32 0)) (before_due_nobearer_after_drop_answered_ok ++ 
+due_nobearer_after_drop_answered_ok_is_right : breaks (a_header Nea0 0 (replicate 32 0)) (before_due_nobearer_after_drop_answered_ok ++
     an_entry (event.Submit 1 Dl (0 ∷ [])) (answer.No refusal.NoBearer) []
     ∷ []) ≡ []
 unfolding sn window modulus distance count_for data_pdu decoded read_data read_report keystream counter_block stream_blocks report_pdu
@@ -1495,25 +1495,25 @@ before_due_nobearer_after_give_answered_ok =
     ∷ an_entry (event.Step (link M A Ctl) 0) answer.Ok (line.Note (note.Give A 1 3) ∷ line.Send (link A M Ctl) (flight.Ctl (rec.Modack 3)) ∷ line.Send (link A M Ctl) (flight.Ctl (rec.Snst (a_transfer 3 1 0 [] 0))) ∷ line.Send (link A M Tun) (flight.Tun None (52 ∷ 255 ∷ 0 ∷ 12 ∷ 0 ∷ 0 ∷ 1 ∷ 130 ∷ 0 ∷ 0 ∷ 0 ∷ 132 ∷ 2 ∷ 0 ∷ 0 ∷ 0 ∷ 0 ∷ 0 ∷ 0 ∷ 0 ∷ [])) ∷ line.Send (link A M Tun) (flight.Tun None (48 ∷ 254 ∷ 0 ∷ 0 ∷ 0 ∷ 0 ∷ 1 ∷ 130 ∷ [])) ∷ [])
     ∷ []
 
-due_nobearer_after_give_answered_ok_is_wrong : breaks (a_header Nea0 0 (replicate 32 0)) (before_due_nobearer_after_give_answered_ok ++ 
+due_nobearer_after_give_answered_ok_is_wrong : breaks (a_header Nea0 0 (replicate 32 0)) (before_due_nobearer_after_give_answered_ok ++
     an_entry (event.Report A 1) answer.Ok []
     ∷ []) ≡ cause ∷ []
 unfolding sn window modulus distance count_for data_pdu decoded read_data read_report keystream counter_block stream_blocks report_pdu
 due_nobearer_after_give_answered_ok_is_wrong = refl
 
-due_nobearer_after_give_answered_ok_is_right : breaks (a_header Nea0 0 (replicate 32 0)) (before_due_nobearer_after_give_answered_ok ++ 
+due_nobearer_after_give_answered_ok_is_right : breaks (a_header Nea0 0 (replicate 32 0)) (before_due_nobearer_after_give_answered_ok ++
     an_entry (event.Report A 1) (answer.No refusal.NoBearer) []
     ∷ []) ≡ []
 unfolding sn window modulus distance count_for data_pdu decoded read_data read_report keystream counter_block stream_blocks report_pdu
 due_nobearer_after_give_answered_ok_is_right = refl
 
-due_nobearer_answered_ok_at_a_secondary_is_wrong : breaks (a_header Nea0 0 (replicate 32 0)) (before_c2_handed_up_at_its_submission ++ 
+due_nobearer_answered_ok_at_a_secondary_is_wrong : breaks (a_header Nea0 0 (replicate 32 0)) (before_c2_handed_up_at_its_submission ++
     an_entry (event.Report A 1) answer.Ok []
     ∷ []) ≡ cause ∷ []
 unfolding sn window modulus distance count_for data_pdu decoded read_data read_report keystream counter_block stream_blocks report_pdu
 due_nobearer_answered_ok_at_a_secondary_is_wrong = refl
 
-due_nobearer_answered_ok_at_a_secondary_is_right : breaks (a_header Nea0 0 (replicate 32 0)) (before_c2_handed_up_at_its_submission ++ 
+due_nobearer_answered_ok_at_a_secondary_is_right : breaks (a_header Nea0 0 (replicate 32 0)) (before_c2_handed_up_at_its_submission ++
     an_entry (event.Report A 1) (answer.No refusal.NoBearer) []
     ∷ []) ≡ []
 unfolding sn window modulus distance count_for data_pdu decoded read_data read_report keystream counter_block stream_blocks report_pdu
@@ -1526,13 +1526,13 @@ before_due_nobearer_answered_ok_before_done =
     ∷ an_entry (event.Step (link M T Ctl) 0) answer.Ok (line.Note (note.Set 1 1) ∷ line.Send (link T M Ctl) (flight.Ctl (rec.Rcomp 1)) ∷ [])
     ∷ []
 
-due_nobearer_answered_ok_before_done_is_wrong : breaks (a_header Nea0 0 (replicate 32 0)) (before_due_nobearer_answered_ok_before_done ++ 
+due_nobearer_answered_ok_before_done_is_wrong : breaks (a_header Nea0 0 (replicate 32 0)) (before_due_nobearer_answered_ok_before_done ++
     an_entry (event.Submit 1 Dl (0 ∷ [])) answer.Ok (line.Send (link M T Air) (flight.Air 1 1 0 (Some 0) (128 ∷ 0 ∷ 0 ∷ [])) ∷ [])
     ∷ []) ≡ holder ∷ cause ∷ []
 unfolding sn window modulus distance count_for data_pdu decoded read_data read_report keystream counter_block stream_blocks report_pdu
 due_nobearer_answered_ok_before_done_is_wrong = refl
 
-due_nobearer_answered_ok_before_done_is_right : breaks (a_header Nea0 0 (replicate 32 0)) (before_due_nobearer_answered_ok_before_done ++ 
+due_nobearer_answered_ok_before_done_is_right : breaks (a_header Nea0 0 (replicate 32 0)) (before_due_nobearer_answered_ok_before_done ++
     an_entry (event.Submit 1 Dl (0 ∷ [])) (answer.No refusal.NoBearer) []
     ∷ []) ≡ []
 unfolding sn window modulus distance count_for data_pdu decoded read_data read_report keystream counter_block stream_blocks report_pdu
@@ -1582,25 +1582,25 @@ before_due_nosecondary_of_scgfail_answered_ok =
     ∷ an_entry (event.Step (link A M Ctl) 0) answer.Ok (line.Send (link M T Ctl) (flight.Ctl (rec.Reconf (a_plan 1 (Some A) []) [])) ∷ [])
     ∷ []
 
-due_nosecondary_of_scgfail_answered_ok_is_wrong : breaks (a_header Nea0 0 (replicate 32 0)) (before_due_nosecondary_of_scgfail_answered_ok ++ 
+due_nosecondary_of_scgfail_answered_ok_is_wrong : breaks (a_header Nea0 0 (replicate 32 0)) (before_due_nosecondary_of_scgfail_answered_ok ++
     an_entry (event.ScgFail) answer.Ok (line.Send (link T M Ctl) (flight.Ctl (rec.Scgf [])) ∷ [])
     ∷ []) ≡ cause ∷ []
 unfolding sn window modulus distance count_for data_pdu decoded read_data read_report keystream counter_block stream_blocks report_pdu
 due_nosecondary_of_scgfail_answered_ok_is_wrong = refl
 
-due_nosecondary_of_scgfail_answered_ok_is_right : breaks (a_header Nea0 0 (replicate 32 0)) (before_due_nosecondary_of_scgfail_answered_ok ++ 
+due_nosecondary_of_scgfail_answered_ok_is_right : breaks (a_header Nea0 0 (replicate 32 0)) (before_due_nosecondary_of_scgfail_answered_ok ++
     an_entry (event.ScgFail) (answer.No refusal.NoSecondary) []
     ∷ []) ≡ []
 unfolding sn window modulus distance count_for data_pdu decoded read_data read_report keystream counter_block stream_blocks report_pdu
 due_nosecondary_of_scgfail_answered_ok_is_right = refl
 
-due_nosecondary_of_want_answered_ok_is_wrong : breaks (a_header Nea0 0 (replicate 32 0)) (before_counter_does_not_begin_at_used ++ 
+due_nosecondary_of_want_answered_ok_is_wrong : breaks (a_header Nea0 0 (replicate 32 0)) (before_counter_does_not_begin_at_used ++
     an_entry (event.Ask B want.Rekey) answer.Ok (line.Send (link B M Ctl) (flight.Ctl (rec.Modrqd)) ∷ [])
     ∷ []) ≡ cause ∷ []
 unfolding sn window modulus distance count_for data_pdu decoded read_data read_report keystream counter_block stream_blocks report_pdu
 due_nosecondary_of_want_answered_ok_is_wrong = refl
 
-due_nosecondary_of_want_answered_ok_is_right : breaks (a_header Nea0 0 (replicate 32 0)) (before_counter_does_not_begin_at_used ++ 
+due_nosecondary_of_want_answered_ok_is_right : breaks (a_header Nea0 0 (replicate 32 0)) (before_counter_does_not_begin_at_used ++
     an_entry (event.Ask B want.Rekey) (answer.No refusal.NoSecondary) []
     ∷ []) ≡ []
 unfolding sn window modulus distance count_for data_pdu decoded read_data read_report keystream counter_block stream_blocks report_pdu
@@ -1625,13 +1625,13 @@ before_due_notfirst_answered_ok =
     ∷ an_entry (event.Submit 1 Dl (187 ∷ [])) answer.Ok (line.Send (link M A Feed) (flight.Sdu 1 2 (187 ∷ [])) ∷ [])
     ∷ []
 
-due_notfirst_answered_ok_is_wrong : breaks (a_header Nea0 0 (replicate 32 0)) (before_due_notfirst_answered_ok ++ 
+due_notfirst_answered_ok_is_wrong : breaks (a_header Nea0 0 (replicate 32 0)) (before_due_notfirst_answered_ok ++
     an_entry (event.Step (link M A Feed) 1) answer.Ok (line.Send (link A T Air) (flight.Air 1 2 0 (Some 1) (128 ∷ 1 ∷ 187 ∷ [])) ∷ [])
     ∷ []) ≡ come ∷ cause ∷ []
 unfolding sn window modulus distance count_for data_pdu decoded read_data read_report keystream counter_block stream_blocks report_pdu
 due_notfirst_answered_ok_is_wrong = refl
 
-due_notfirst_answered_ok_is_right : breaks (a_header Nea0 0 (replicate 32 0)) (before_due_notfirst_answered_ok ++ 
+due_notfirst_answered_ok_is_right : breaks (a_header Nea0 0 (replicate 32 0)) (before_due_notfirst_answered_ok ++
     an_entry (event.Step (link M A Feed) 1) (answer.No refusal.NotFirst) []
     ∷ []) ≡ []
 unfolding sn window modulus distance count_for data_pdu decoded read_data read_report keystream counter_block stream_blocks report_pdu
@@ -1649,13 +1649,13 @@ due_nottunnel_answered_noflight_is_right : breaks (a_header Nea0 0 (replicate 32
 unfolding sn window modulus distance count_for data_pdu decoded read_data read_report keystream counter_block stream_blocks report_pdu
 due_nottunnel_answered_noflight_is_right = refl
 
-due_nottunnel_answered_ok_is_wrong : breaks (a_header Nea0 0 (replicate 32 0)) (before_c1_up_line_with_an_altered_payload ++ 
+due_nottunnel_answered_ok_is_wrong : breaks (a_header Nea0 0 (replicate 32 0)) (before_c1_up_line_with_an_altered_payload ++
     an_entry (event.Lose (link M T Air) 0) answer.Ok []
     ∷ []) ≡ cause ∷ []
 unfolding sn window modulus distance count_for data_pdu decoded read_data read_report keystream counter_block stream_blocks report_pdu
 due_nottunnel_answered_ok_is_wrong = refl
 
-due_nottunnel_answered_ok_is_right : breaks (a_header Nea0 0 (replicate 32 0)) (before_c1_up_line_with_an_altered_payload ++ 
+due_nottunnel_answered_ok_is_right : breaks (a_header Nea0 0 (replicate 32 0)) (before_c1_up_line_with_an_altered_payload ++
     an_entry (event.Lose (link M T Air) 0) (answer.No refusal.NotTunnel) []
     ∷ []) ≡ []
 unfolding sn window modulus distance count_for data_pdu decoded read_data read_report keystream counter_block stream_blocks report_pdu
@@ -1678,13 +1678,13 @@ before_due_relcnf_0_missing =
     ∷ an_entry (event.Step (link M T Ctl) 0) answer.Ok (line.Send (link T M Ctl) (flight.Ctl (rec.Rcomp 2)) ∷ [])
     ∷ []
 
-due_relcnf_0_missing_is_wrong : breaks (a_header Nea0 0 (replicate 32 0)) (before_due_relcnf_0_missing ++ 
+due_relcnf_0_missing_is_wrong : breaks (a_header Nea0 0 (replicate 32 0)) (before_due_relcnf_0_missing ++
     an_entry (event.Step (link T M Ctl) 0) answer.Ok (line.Send (link M A Ctl) (flight.Ctl (rec.Uecr 2)) ∷ line.Note note.Done ∷ [])
     ∷ []) ≡ replied ∷ []
 unfolding sn window modulus distance count_for data_pdu decoded read_data read_report keystream counter_block stream_blocks report_pdu
 due_relcnf_0_missing_is_wrong = refl
 
-due_relcnf_0_missing_is_right : breaks (a_header Nea0 0 (replicate 32 0)) (before_due_relcnf_0_missing ++ 
+due_relcnf_0_missing_is_right : breaks (a_header Nea0 0 (replicate 32 0)) (before_due_relcnf_0_missing ++
     an_entry (event.Step (link T M Ctl) 0) answer.Ok (line.Send (link M A Ctl) (flight.Ctl (rec.Uecr 2)) ∷ line.Note note.Done ∷ line.Send (link M A Ctl) (flight.Ctl (rec.Relcnf (a_plan 0 None []))) ∷ [])
     ∷ []) ≡ []
 unfolding sn window modulus distance count_for data_pdu decoded read_data read_report keystream counter_block stream_blocks report_pdu

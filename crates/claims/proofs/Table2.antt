@@ -39,13 +39,13 @@ before_not_due_notfirst_on_air =
     ∷ an_entry (event.Submit 1 Dl (121 ∷ 111 ∷ [])) answer.Ok (line.Send (link M T Air) (flight.Air 1 1 1 (Some 1) (128 ∷ 1 ∷ 121 ∷ 111 ∷ [])) ∷ [])
     ∷ []
 
-not_due_notfirst_on_air_is_wrong : breaks (a_header Nea0 0 (replicate 32 0)) (before_not_due_notfirst_on_air ++ 
+not_due_notfirst_on_air_is_wrong : breaks (a_header Nea0 0 (replicate 32 0)) (before_not_due_notfirst_on_air ++
     an_entry (event.Step (link M T Air) 1) (answer.No refusal.NotFirst) []
     ∷ []) ≡ cause ∷ []
 unfolding sn window modulus distance count_for data_pdu decoded read_data read_report keystream counter_block stream_blocks report_pdu
 not_due_notfirst_on_air_is_wrong = refl
 
-not_due_notfirst_on_air_is_right : breaks (a_header Nea0 0 (replicate 32 0)) (before_not_due_notfirst_on_air ++ 
+not_due_notfirst_on_air_is_right : breaks (a_header Nea0 0 (replicate 32 0)) (before_not_due_notfirst_on_air ++
     an_entry (event.Step (link M T Air) 1) answer.Ok (line.Send (link T M Air) (flight.Ack 1 1 1) ∷ [])
     ∷ []) ≡ []
 unfolding sn window modulus distance count_for data_pdu decoded read_data read_report keystream counter_block stream_blocks report_pdu
@@ -68,13 +68,13 @@ before_not_due_nottunnel =
     ∷ an_entry (event.Submit 1 Dl (170 ∷ [])) answer.Ok (line.Send (link M A Tun) (flight.Tun (Some 0) (52 ∷ 255 ∷ 0 ∷ 15 ∷ 0 ∷ 0 ∷ 1 ∷ 0 ∷ 0 ∷ 0 ∷ 0 ∷ 132 ∷ 2 ∷ 1 ∷ 0 ∷ 0 ∷ 0 ∷ 0 ∷ 0 ∷ 0 ∷ 128 ∷ 0 ∷ 170 ∷ [])) ∷ [])
     ∷ []
 
-not_due_nottunnel_is_wrong : breaks (a_header Nea0 0 (replicate 32 0)) (before_not_due_nottunnel ++ 
+not_due_nottunnel_is_wrong : breaks (a_header Nea0 0 (replicate 32 0)) (before_not_due_nottunnel ++
     an_entry (event.Lose (link M A Tun) 0) (answer.No refusal.NotTunnel) []
     ∷ []) ≡ cause ∷ []
 unfolding sn window modulus distance count_for data_pdu decoded read_data read_report keystream counter_block stream_blocks report_pdu
 not_due_nottunnel_is_wrong = refl
 
-not_due_nottunnel_is_right : breaks (a_header Nea0 0 (replicate 32 0)) (before_not_due_nottunnel ++ 
+not_due_nottunnel_is_right : breaks (a_header Nea0 0 (replicate 32 0)) (before_not_due_nottunnel ++
     an_entry (event.Lose (link M A Tun) 0) answer.Ok []
     ∷ []) ≡ []
 unfolding sn window modulus distance count_for data_pdu decoded read_data read_report keystream counter_block stream_blocks report_pdu
@@ -92,13 +92,13 @@ before_not_due_relcnf_0 =
     ∷ an_entry (event.Ask A want.Release) answer.Ok (line.Send (link A M Ctl) (flight.Ctl (rec.Relrqd)) ∷ [])
     ∷ []
 
-not_due_relcnf_0_is_wrong : breaks (a_header Nea0 0 (replicate 32 0)) (before_not_due_relcnf_0 ++ 
+not_due_relcnf_0_is_wrong : breaks (a_header Nea0 0 (replicate 32 0)) (before_not_due_relcnf_0 ++
     an_entry (event.Step (link A M Ctl) 0) answer.Ok (line.Send (link M A Ctl) (flight.Ctl (rec.Relcnf (a_plan 0 None []))) ∷ [])
     ∷ []) ≡ licensed ∷ replied ∷ []
 unfolding sn window modulus distance count_for data_pdu decoded read_data read_report keystream counter_block stream_blocks report_pdu
 not_due_relcnf_0_is_wrong = refl
 
-not_due_relcnf_0_is_right : breaks (a_header Nea0 0 (replicate 32 0)) (before_not_due_relcnf_0 ++ 
+not_due_relcnf_0_is_right : breaks (a_header Nea0 0 (replicate 32 0)) (before_not_due_relcnf_0 ++
     an_entry (event.Step (link A M Ctl) 0) answer.Ok (line.Note (note.Begin want.Release) ∷ line.Send (link M T Ctl) (flight.Ctl (rec.Reconf (a_plan 2 None []) [])) ∷ line.Send (link M A Ctl) (flight.Ctl (rec.Relcnf (a_plan 2 None []))) ∷ [])
     ∷ []) ≡ []
 unfolding sn window modulus distance count_for data_pdu decoded read_data read_report keystream counter_block stream_blocks report_pdu
@@ -116,13 +116,13 @@ before_not_due_relrej =
     ∷ an_entry (event.Release) answer.Ok (line.Send (link M A Ctl) (flight.Ctl (rec.Relreq (a_plan 2 None []))) ∷ [])
     ∷ []
 
-not_due_relrej_is_wrong : breaks (a_header Nea0 0 (replicate 32 0)) (before_not_due_relrej ++ 
+not_due_relrej_is_wrong : breaks (a_header Nea0 0 (replicate 32 0)) (before_not_due_relrej ++
     an_entry (event.Step (link M A Ctl) 0) answer.Ok (line.Send (link A M Ctl) (flight.Ctl (rec.Relrej 2)) ∷ [])
     ∷ []) ≡ licensed ∷ come ∷ replied ∷ []
 unfolding sn window modulus distance count_for data_pdu decoded read_data read_report keystream counter_block stream_blocks report_pdu
 not_due_relrej_is_wrong = refl
 
-not_due_relrej_is_right : breaks (a_header Nea0 0 (replicate 32 0)) (before_not_due_relrej ++ 
+not_due_relrej_is_right : breaks (a_header Nea0 0 (replicate 32 0)) (before_not_due_relrej ++
     an_entry (event.Step (link M A Ctl) 0) answer.Ok (line.Note (note.Leave A 2) ∷ line.Send (link A M Ctl) (flight.Ctl (rec.Relack 2)) ∷ [])
     ∷ []) ≡ []
 unfolding sn window modulus distance count_for data_pdu decoded read_data read_report keystream counter_block stream_blocks report_pdu
@@ -143,13 +143,13 @@ before_not_due_relrej_of_a_change =
     ∷ an_entry (event.Step (link B M Ctl) 0) answer.Ok (line.Send (link M T Ctl) (flight.Ctl (rec.Reconf (a_plan 2 (Some B) []) [])) ∷ line.Send (link M A Ctl) (flight.Ctl (rec.Relreq (a_plan 2 (Some B) []))) ∷ [])
     ∷ []
 
-not_due_relrej_of_a_change_is_wrong : breaks (a_header Nea0 0 (replicate 32 0)) (before_not_due_relrej_of_a_change ++ 
+not_due_relrej_of_a_change_is_wrong : breaks (a_header Nea0 0 (replicate 32 0)) (before_not_due_relrej_of_a_change ++
     an_entry (event.Step (link M A Ctl) 0) answer.Ok (line.Send (link A M Ctl) (flight.Ctl (rec.Relrej 2)) ∷ [])
     ∷ []) ≡ licensed ∷ come ∷ replied ∷ []
 unfolding sn window modulus distance count_for data_pdu decoded read_data read_report keystream counter_block stream_blocks report_pdu
 not_due_relrej_of_a_change_is_wrong = refl
 
-not_due_relrej_of_a_change_is_right : breaks (a_header Nea0 0 (replicate 32 0)) (before_not_due_relrej_of_a_change ++ 
+not_due_relrej_of_a_change_is_right : breaks (a_header Nea0 0 (replicate 32 0)) (before_not_due_relrej_of_a_change ++
     an_entry (event.Step (link M A Ctl) 0) answer.Ok (line.Note (note.Leave A 2) ∷ line.Send (link A M Ctl) (flight.Ctl (rec.Relack 2)) ∷ [])
     ∷ []) ≡ []
 unfolding sn window modulus distance count_for data_pdu decoded read_data read_report keystream counter_block stream_blocks report_pdu
@@ -163,13 +163,13 @@ before_not_due_rootused =
     ∷ an_entry (event.Step (link T M Ctl) 0) answer.Ok (line.Note note.Done ∷ [])
     ∷ []
 
-not_due_rootused_is_wrong : breaks (a_header Nea0 0 (replicate 32 0)) (before_not_due_rootused ++ 
+not_due_rootused_is_wrong : breaks (a_header Nea0 0 (replicate 32 0)) (before_not_due_rootused ++
     an_entry (event.RekeyMaster (replicate 32 17)) (answer.No refusal.RootUsed) []
     ∷ []) ≡ cause ∷ []
 unfolding sn window modulus distance count_for data_pdu decoded read_data read_report keystream counter_block stream_blocks report_pdu
 not_due_rootused_is_wrong = refl
 
-not_due_rootused_is_right : breaks (a_header Nea0 0 (replicate 32 0)) (before_not_due_rootused ++ 
+not_due_rootused_is_right : breaks (a_header Nea0 0 (replicate 32 0)) (before_not_due_rootused ++
     an_entry (event.RekeyMaster (replicate 32 17)) answer.Ok (line.Note (note.Own M 1 2) ∷ line.Send (link M T Ctl) (flight.Ctl (rec.Reconf (a_plan 2 None (Set 1 S12 0 (a_shape false Mcg false) 0 0 (a_key 1 Master) (Some M) ∷ [])) [])) ∷ [])
     ∷ []) ≡ []
 unfolding sn window modulus distance count_for data_pdu decoded read_data read_report keystream counter_block stream_blocks report_pdu
@@ -189,13 +189,13 @@ before_not_due_sameshape =
     ∷ an_entry (event.Step (link M A Ctl) 0) answer.Ok []
     ∷ []
 
-not_due_sameshape_is_wrong : breaks (a_header Nea0 0 (replicate 32 0)) (before_not_due_sameshape ++ 
+not_due_sameshape_is_wrong : breaks (a_header Nea0 0 (replicate 32 0)) (before_not_due_sameshape ++
     an_entry (event.Reshape 1 (a_shape false Scg false)) (answer.No refusal.SameShape) []
     ∷ []) ≡ cause ∷ []
 unfolding sn window modulus distance count_for data_pdu decoded read_data read_report keystream counter_block stream_blocks report_pdu
 not_due_sameshape_is_wrong = refl
 
-not_due_sameshape_is_right : breaks (a_header Nea0 0 (replicate 32 0)) (before_not_due_sameshape ++ 
+not_due_sameshape_is_right : breaks (a_header Nea0 0 (replicate 32 0)) (before_not_due_sameshape ++
     an_entry (event.Reshape 1 (a_shape false Scg false)) answer.Ok (line.Send (link M A Ctl) (flight.Ctl (rec.Modreq (a_plan 3 (Some A) (Set 1 S12 0 (a_shape false Scg false) 0 0 (a_key 0 Master) (Some M) ∷ [])) [])) ∷ [])
     ∷ []) ≡ []
 unfolding sn window modulus distance count_for data_pdu decoded read_data read_report keystream counter_block stream_blocks report_pdu
@@ -222,13 +222,13 @@ before_num_0_for_every_pdu =
     ∷ an_entry (event.Submit 1 Dl (104 ∷ 105 ∷ [])) answer.Ok (line.Send (link M T Air) (flight.Air 1 1 0 (Some 0) (128 ∷ 0 ∷ 104 ∷ 105 ∷ [])) ∷ [])
     ∷ []
 
-num_0_for_every_pdu_is_wrong : breaks (a_header Nea0 0 (replicate 32 0)) (before_num_0_for_every_pdu ++ 
+num_0_for_every_pdu_is_wrong : breaks (a_header Nea0 0 (replicate 32 0)) (before_num_0_for_every_pdu ++
     an_entry (event.Submit 1 Dl (121 ∷ 111 ∷ [])) answer.Ok (line.Send (link M T Air) (flight.Air 1 1 0 (Some 1) (128 ∷ 1 ∷ 121 ∷ 111 ∷ [])) ∷ [])
     ∷ []) ≡ numbered ∷ []
 unfolding sn window modulus distance count_for data_pdu decoded read_data read_report keystream counter_block stream_blocks report_pdu
 num_0_for_every_pdu_is_wrong = refl
 
-num_0_for_every_pdu_is_right : breaks (a_header Nea0 0 (replicate 32 0)) (before_num_0_for_every_pdu ++ 
+num_0_for_every_pdu_is_right : breaks (a_header Nea0 0 (replicate 32 0)) (before_num_0_for_every_pdu ++
     an_entry (event.Submit 1 Dl (121 ∷ 111 ∷ [])) answer.Ok (line.Send (link M T Air) (flight.Air 1 1 1 (Some 1) (128 ∷ 1 ∷ 121 ∷ 111 ∷ [])) ∷ [])
     ∷ []) ≡ []
 unfolding sn window modulus distance count_for data_pdu decoded read_data read_report keystream counter_block stream_blocks report_pdu
@@ -248,13 +248,13 @@ before_numbers_from_0_again_after_a_change_of_generation =
     ∷ an_entry (event.Step (link T M Ctl) 0) answer.Ok (line.Note note.Done ∷ [])
     ∷ []
 
-numbers_from_0_again_after_a_change_of_generation_is_wrong : breaks (a_header Nea0 0 (replicate 32 0)) (before_numbers_from_0_again_after_a_change_of_generation ++ 
+numbers_from_0_again_after_a_change_of_generation_is_wrong : breaks (a_header Nea0 0 (replicate 32 0)) (before_numbers_from_0_again_after_a_change_of_generation ++
     an_entry (event.Submit 1 Dl (187 ∷ [])) answer.Ok (line.Send (link M T Air) (flight.Air 1 2 0 (Some 0) (128 ∷ 0 ∷ 187 ∷ [])) ∷ [])
     ∷ []) ≡ protected ∷ licensed ∷ come ∷ []
 unfolding sn window modulus distance count_for data_pdu decoded read_data read_report keystream counter_block stream_blocks report_pdu
 numbers_from_0_again_after_a_change_of_generation_is_wrong = refl
 
-numbers_from_0_again_after_a_change_of_generation_is_right : breaks (a_header Nea0 0 (replicate 32 0)) (before_numbers_from_0_again_after_a_change_of_generation ++ 
+numbers_from_0_again_after_a_change_of_generation_is_right : breaks (a_header Nea0 0 (replicate 32 0)) (before_numbers_from_0_again_after_a_change_of_generation ++
     an_entry (event.Submit 1 Dl (187 ∷ [])) answer.Ok (line.Send (link M T Air) (flight.Air 1 2 0 (Some 1) (128 ∷ 1 ∷ 187 ∷ [])) ∷ [])
     ∷ []) ≡ []
 unfolding sn window modulus distance count_for data_pdu decoded read_data read_report keystream counter_block stream_blocks report_pdu
@@ -278,13 +278,13 @@ before_old_anchor_hands_up_after_its_give =
     ∷ an_entry (event.Step (link A M Ctl) 0) answer.Ok (line.Note (note.Give M 1 3) ∷ line.Send (link M T Ctl) (flight.Ctl (rec.Reconf (a_plan 3 (Some A) (Set 1 S12 0 (a_shape true Scg false) 0 0 (a_key 0 (SecondKey 0)) (Some M) ∷ [])) [])) ∷ line.Send (link M A Ctl) (flight.Ctl (rec.Snst (a_transfer 3 1 0 [] 0))) ∷ line.Send (link M A Tun) (flight.Tun None (52 ∷ 255 ∷ 0 ∷ 12 ∷ 0 ∷ 0 ∷ 1 ∷ 129 ∷ 0 ∷ 0 ∷ 0 ∷ 132 ∷ 2 ∷ 0 ∷ 0 ∷ 0 ∷ 0 ∷ 0 ∷ 0 ∷ 0 ∷ [])) ∷ line.Send (link M A Tun) (flight.Tun None (48 ∷ 254 ∷ 0 ∷ 0 ∷ 0 ∷ 0 ∷ 1 ∷ 129 ∷ [])) ∷ line.Send (link M A Tun) (flight.Tun None (52 ∷ 255 ∷ 0 ∷ 12 ∷ 0 ∷ 0 ∷ 1 ∷ 130 ∷ 0 ∷ 0 ∷ 0 ∷ 132 ∷ 2 ∷ 0 ∷ 0 ∷ 0 ∷ 0 ∷ 0 ∷ 0 ∷ 0 ∷ [])) ∷ line.Send (link M A Tun) (flight.Tun None (48 ∷ 254 ∷ 0 ∷ 0 ∷ 0 ∷ 0 ∷ 1 ∷ 130 ∷ [])) ∷ [])
     ∷ []
 
-old_anchor_hands_up_after_its_give_is_wrong : breaks (a_header Nea0 0 (replicate 32 0)) (before_old_anchor_hands_up_after_its_give ++ 
+old_anchor_hands_up_after_its_give_is_wrong : breaks (a_header Nea0 0 (replicate 32 0)) (before_old_anchor_hands_up_after_its_give ++
     an_entry (event.Step (link T M Air) 0) answer.Ok (line.Note (note.Up M 1 Ul 0 (204 ∷ [])) ∷ line.Send (link M T Air) (flight.Ack 1 1 0) ∷ [])
     ∷ []) ≡ carried ∷ holder ∷ licensed ∷ []
 unfolding sn window modulus distance count_for data_pdu decoded read_data read_report keystream counter_block stream_blocks report_pdu
 old_anchor_hands_up_after_its_give_is_wrong = refl
 
-old_anchor_hands_up_after_its_give_is_right : breaks (a_header Nea0 0 (replicate 32 0)) (before_old_anchor_hands_up_after_its_give ++ 
+old_anchor_hands_up_after_its_give_is_right : breaks (a_header Nea0 0 (replicate 32 0)) (before_old_anchor_hands_up_after_its_give ++
     an_entry (event.Step (link T M Air) 0) answer.Ok []
     ∷ []) ≡ []
 unfolding sn window modulus distance count_for data_pdu decoded read_data read_report keystream counter_block stream_blocks report_pdu
@@ -307,13 +307,13 @@ before_old_anchor_sends_after_its_give =
     ∷ an_entry (event.Step (link M A Ctl) 0) answer.Ok (line.Send (link A M Ctl) (flight.Ctl (rec.Modack 3)) ∷ [])
     ∷ []
 
-old_anchor_sends_after_its_give_is_wrong : breaks (a_header Nea0 0 (replicate 32 0)) (before_old_anchor_sends_after_its_give ++ 
+old_anchor_sends_after_its_give_is_wrong : breaks (a_header Nea0 0 (replicate 32 0)) (before_old_anchor_sends_after_its_give ++
     an_entry (event.Step (link A M Ctl) 0) answer.Ok (line.Note (note.Give M 1 3) ∷ line.Send (link M T Ctl) (flight.Ctl (rec.Reconf (a_plan 3 (Some A) (Set 1 S12 0 (a_shape true Scg false) 0 0 (a_key 0 (SecondKey 0)) (Some M) ∷ [])) [])) ∷ line.Send (link M A Ctl) (flight.Ctl (rec.Snst (a_transfer 3 1 0 [] 1))) ∷ line.Send (link M T Air) (flight.Air 1 1 1 (Some 0) (128 ∷ 0 ∷ 170 ∷ [])) ∷ line.Send (link M A Tun) (flight.Tun None (52 ∷ 255 ∷ 0 ∷ 17 ∷ 0 ∷ 0 ∷ 1 ∷ 129 ∷ 0 ∷ 0 ∷ 0 ∷ 132 ∷ 2 ∷ 1 ∷ 0 ∷ 0 ∷ 0 ∷ 0 ∷ 0 ∷ 192 ∷ 1 ∷ 0 ∷ 0 ∷ 0 ∷ 170 ∷ [])) ∷ line.Send (link M A Tun) (flight.Tun None (52 ∷ 255 ∷ 0 ∷ 12 ∷ 0 ∷ 0 ∷ 1 ∷ 129 ∷ 0 ∷ 0 ∷ 0 ∷ 132 ∷ 2 ∷ 0 ∷ 0 ∷ 0 ∷ 1 ∷ 0 ∷ 0 ∷ 0 ∷ [])) ∷ line.Send (link M A Tun) (flight.Tun None (48 ∷ 254 ∷ 0 ∷ 0 ∷ 0 ∷ 0 ∷ 1 ∷ 129 ∷ [])) ∷ line.Send (link M A Tun) (flight.Tun None (52 ∷ 255 ∷ 0 ∷ 12 ∷ 0 ∷ 0 ∷ 1 ∷ 130 ∷ 0 ∷ 0 ∷ 0 ∷ 132 ∷ 2 ∷ 0 ∷ 0 ∷ 0 ∷ 0 ∷ 0 ∷ 0 ∷ 0 ∷ [])) ∷ line.Send (link M A Tun) (flight.Tun None (48 ∷ 254 ∷ 0 ∷ 0 ∷ 0 ∷ 0 ∷ 1 ∷ 130 ∷ [])) ∷ [])
     ∷ []) ≡ holder ∷ licensed ∷ []
 unfolding sn window modulus distance count_for data_pdu decoded read_data read_report keystream counter_block stream_blocks report_pdu
 old_anchor_sends_after_its_give_is_wrong = refl
 
-old_anchor_sends_after_its_give_is_right : breaks (a_header Nea0 0 (replicate 32 0)) (before_old_anchor_sends_after_its_give ++ 
+old_anchor_sends_after_its_give_is_right : breaks (a_header Nea0 0 (replicate 32 0)) (before_old_anchor_sends_after_its_give ++
     an_entry (event.Step (link A M Ctl) 0) answer.Ok (line.Note (note.Give M 1 3) ∷ line.Send (link M T Ctl) (flight.Ctl (rec.Reconf (a_plan 3 (Some A) (Set 1 S12 0 (a_shape true Scg false) 0 0 (a_key 0 (SecondKey 0)) (Some M) ∷ [])) [])) ∷ line.Send (link M A Ctl) (flight.Ctl (rec.Snst (a_transfer 3 1 0 [] 1))) ∷ line.Send (link M A Tun) (flight.Tun None (52 ∷ 255 ∷ 0 ∷ 17 ∷ 0 ∷ 0 ∷ 1 ∷ 129 ∷ 0 ∷ 0 ∷ 0 ∷ 132 ∷ 2 ∷ 1 ∷ 0 ∷ 0 ∷ 0 ∷ 0 ∷ 0 ∷ 192 ∷ 1 ∷ 0 ∷ 0 ∷ 0 ∷ 170 ∷ [])) ∷ line.Send (link M A Tun) (flight.Tun None (52 ∷ 255 ∷ 0 ∷ 12 ∷ 0 ∷ 0 ∷ 1 ∷ 129 ∷ 0 ∷ 0 ∷ 0 ∷ 132 ∷ 2 ∷ 0 ∷ 0 ∷ 0 ∷ 1 ∷ 0 ∷ 0 ∷ 0 ∷ [])) ∷ line.Send (link M A Tun) (flight.Tun None (48 ∷ 254 ∷ 0 ∷ 0 ∷ 0 ∷ 0 ∷ 1 ∷ 129 ∷ [])) ∷ line.Send (link M A Tun) (flight.Tun None (52 ∷ 255 ∷ 0 ∷ 12 ∷ 0 ∷ 0 ∷ 1 ∷ 130 ∷ 0 ∷ 0 ∷ 0 ∷ 132 ∷ 2 ∷ 0 ∷ 0 ∷ 0 ∷ 0 ∷ 0 ∷ 0 ∷ 0 ∷ [])) ∷ line.Send (link M A Tun) (flight.Tun None (48 ∷ 254 ∷ 0 ∷ 0 ∷ 0 ∷ 0 ∷ 1 ∷ 130 ∷ [])) ∷ [])
     ∷ []) ≡ []
 unfolding sn window modulus distance count_for data_pdu decoded read_data read_report keystream counter_block stream_blocks report_pdu
@@ -330,13 +330,13 @@ before_old_root_used_after_rekey_m =
     ∷ an_entry (event.Step (link T M Ctl) 0) answer.Ok (line.Note note.Done ∷ [])
     ∷ []
 
-old_root_used_after_rekey_m_is_wrong : breaks (a_header Nea0 0 (replicate 32 0)) (before_old_root_used_after_rekey_m ++ 
+old_root_used_after_rekey_m_is_wrong : breaks (a_header Nea0 0 (replicate 32 0)) (before_old_root_used_after_rekey_m ++
     an_entry (event.Bearer 2 S12 0 (a_shape false Mcg false) 0 0) answer.Ok (line.Note (note.Own M 2 3) ∷ line.Send (link M T Ctl) (flight.Ctl (rec.Reconf (a_plan 3 None (Set 2 S12 0 (a_shape false Mcg false) 0 0 (a_key 0 Master) None ∷ [])) [])) ∷ [])
     ∷ []) ≡ planned ∷ []
 unfolding sn window modulus distance count_for data_pdu decoded read_data read_report keystream counter_block stream_blocks report_pdu
 old_root_used_after_rekey_m_is_wrong = refl
 
-old_root_used_after_rekey_m_is_right : breaks (a_header Nea0 0 (replicate 32 0)) (before_old_root_used_after_rekey_m ++ 
+old_root_used_after_rekey_m_is_right : breaks (a_header Nea0 0 (replicate 32 0)) (before_old_root_used_after_rekey_m ++
     an_entry (event.Bearer 2 S12 0 (a_shape false Mcg false) 0 0) answer.Ok (line.Note (note.Own M 2 3) ∷ line.Send (link M T Ctl) (flight.Ctl (rec.Reconf (a_plan 3 None (Set 2 S12 0 (a_shape false Mcg false) 0 0 (a_key 1 Master) None ∷ [])) [])) ∷ [])
     ∷ []) ≡ []
 unfolding sn window modulus distance count_for data_pdu decoded read_data read_report keystream counter_block stream_blocks report_pdu
@@ -353,19 +353,19 @@ before_one_ack_frees_two_counts =
     ∷ an_entry (event.Step (link M T Air) 0) answer.Ok (line.Note (note.Up T 1 Dl 0 (104 ∷ 105 ∷ [])) ∷ line.Send (link T M Air) (flight.Ack 1 1 0) ∷ [])
     ∷ []
 
-one_ack_frees_two_counts_is_wrong : breaks (a_header Nea0 0 (replicate 32 0)) (before_one_ack_frees_two_counts ++ 
+one_ack_frees_two_counts_is_wrong : breaks (a_header Nea0 0 (replicate 32 0)) (before_one_ack_frees_two_counts ++
     an_entry (event.Step (link T M Air) 0) answer.Ok (line.Note (note.Freed 1 Dl 2) ∷ [])
     ∷ []) ≡ told ∷ []
 unfolding sn window modulus distance count_for data_pdu decoded read_data read_report keystream counter_block stream_blocks report_pdu
 one_ack_frees_two_counts_is_wrong = refl
 
-one_ack_frees_two_counts_is_right : breaks (a_header Nea0 0 (replicate 32 0)) (before_one_ack_frees_two_counts ++ 
+one_ack_frees_two_counts_is_right : breaks (a_header Nea0 0 (replicate 32 0)) (before_one_ack_frees_two_counts ++
     an_entry (event.Step (link T M Air) 0) answer.Ok (line.Note (note.Freed 1 Dl 1) ∷ [])
     ∷ []) ≡ []
 unfolding sn window modulus distance count_for data_pdu decoded read_data read_report keystream counter_block stream_blocks report_pdu
 one_ack_frees_two_counts_is_right = refl
 
-one_ack_of_a_num_given_twice_frees_both_is_wrong : breaks (a_header Nea0 0 (replicate 32 0)) (before_num_0_for_every_pdu ++ 
+one_ack_of_a_num_given_twice_frees_both_is_wrong : breaks (a_header Nea0 0 (replicate 32 0)) (before_num_0_for_every_pdu ++
     an_entry (event.Submit 1 Dl (121 ∷ 111 ∷ [])) answer.Ok (line.Send (link M T Air) (flight.Air 1 1 0 (Some 1) (128 ∷ 1 ∷ 121 ∷ 111 ∷ [])) ∷ [])
     ∷ an_entry (event.Step (link M T Air) 0) answer.Ok (line.Note (note.Up T 1 Dl 0 (104 ∷ 105 ∷ [])) ∷ line.Send (link T M Air) (flight.Ack 1 1 0) ∷ [])
     ∷ an_entry (event.Step (link T M Air) 0) answer.Ok (line.Note (note.Freed 1 Dl 2) ∷ [])
@@ -373,7 +373,7 @@ one_ack_of_a_num_given_twice_frees_both_is_wrong : breaks (a_header Nea0 0 (repl
 unfolding sn window modulus distance count_for data_pdu decoded read_data read_report keystream counter_block stream_blocks report_pdu
 one_ack_of_a_num_given_twice_frees_both_is_wrong = refl
 
-one_ack_of_a_num_given_twice_frees_both_is_right : breaks (a_header Nea0 0 (replicate 32 0)) (before_num_0_for_every_pdu ++ 
+one_ack_of_a_num_given_twice_frees_both_is_right : breaks (a_header Nea0 0 (replicate 32 0)) (before_num_0_for_every_pdu ++
     an_entry (event.Submit 1 Dl (121 ∷ 111 ∷ [])) answer.Ok (line.Send (link M T Air) (flight.Air 1 1 1 (Some 1) (128 ∷ 1 ∷ 121 ∷ 111 ∷ [])) ∷ [])
     ∷ an_entry (event.Step (link M T Air) 0) answer.Ok (line.Note (note.Up T 1 Dl 0 (104 ∷ 105 ∷ [])) ∷ line.Send (link T M Air) (flight.Ack 1 1 0) ∷ [])
     ∷ an_entry (event.Step (link T M Air) 0) answer.Ok (line.Note (note.Freed 1 Dl 1) ∷ [])
@@ -397,13 +397,13 @@ before_one_leg_with_duplication =
     ∷ an_entry (event.Step (link T M Ctl) 0) answer.Ok (line.Send (link M A Ctl) (flight.Ctl (rec.Recfg 2)) ∷ line.Note note.Done ∷ [])
     ∷ []
 
-one_leg_with_duplication_is_wrong : breaks (a_header Nea0 0 (replicate 32 0)) (before_one_leg_with_duplication ++ 
+one_leg_with_duplication_is_wrong : breaks (a_header Nea0 0 (replicate 32 0)) (before_one_leg_with_duplication ++
     an_entry (event.Submit 1 Dl (170 ∷ [])) answer.Ok (line.Send (link M T Air) (flight.Air 1 2 0 (Some 0) (128 ∷ 0 ∷ 170 ∷ [])) ∷ [])
     ∷ []) ≡ come ∷ []
 unfolding sn window modulus distance count_for data_pdu decoded read_data read_report keystream counter_block stream_blocks report_pdu
 one_leg_with_duplication_is_wrong = refl
 
-one_leg_with_duplication_is_right : breaks (a_header Nea0 0 (replicate 32 0)) (before_one_leg_with_duplication ++ 
+one_leg_with_duplication_is_right : breaks (a_header Nea0 0 (replicate 32 0)) (before_one_leg_with_duplication ++
     an_entry (event.Submit 1 Dl (170 ∷ [])) answer.Ok (line.Send (link M T Air) (flight.Air 1 2 0 (Some 0) (128 ∷ 0 ∷ 170 ∷ [])) ∷ line.Send (link M A Tun) (flight.Tun (Some 0) (52 ∷ 255 ∷ 0 ∷ 15 ∷ 0 ∷ 0 ∷ 1 ∷ 0 ∷ 0 ∷ 0 ∷ 0 ∷ 132 ∷ 2 ∷ 1 ∷ 0 ∷ 0 ∷ 0 ∷ 0 ∷ 0 ∷ 0 ∷ 128 ∷ 0 ∷ 170 ∷ [])) ∷ [])
     ∷ []) ≡ []
 unfolding sn window modulus distance count_for data_pdu decoded read_data read_report keystream counter_block stream_blocks report_pdu
@@ -424,13 +424,13 @@ before_own_at_the_new_anchor_while_the_old_one_holds =
     ∷ an_entry (event.Step (link M A Ctl) 0) answer.Ok []
     ∷ []
 
-own_at_the_new_anchor_while_the_old_one_holds_is_wrong : breaks (a_header Nea0 0 (replicate 32 0)) (before_own_at_the_new_anchor_while_the_old_one_holds ++ 
+own_at_the_new_anchor_while_the_old_one_holds_is_wrong : breaks (a_header Nea0 0 (replicate 32 0)) (before_own_at_the_new_anchor_while_the_old_one_holds ++
     an_entry (event.Step (link M A Ctl) 0) answer.Ok (line.Note (note.Own A 1 3) ∷ line.Send (link A M Ctl) (flight.Ctl (rec.Modack 3)) ∷ [])
     ∷ []) ≡ holder ∷ placed ∷ come ∷ []
 unfolding sn window modulus distance count_for data_pdu decoded read_data read_report keystream counter_block stream_blocks report_pdu
 own_at_the_new_anchor_while_the_old_one_holds_is_wrong = refl
 
-own_at_the_new_anchor_while_the_old_one_holds_is_right : breaks (a_header Nea0 0 (replicate 32 0)) (before_own_at_the_new_anchor_while_the_old_one_holds ++ 
+own_at_the_new_anchor_while_the_old_one_holds_is_right : breaks (a_header Nea0 0 (replicate 32 0)) (before_own_at_the_new_anchor_while_the_old_one_holds ++
     an_entry (event.Step (link M A Ctl) 0) answer.Ok (line.Send (link A M Ctl) (flight.Ctl (rec.Modack 3)) ∷ [])
     ∷ []) ≡ []
 unfolding sn window modulus distance count_for data_pdu decoded read_data read_report keystream counter_block stream_blocks report_pdu
@@ -454,13 +454,13 @@ before_own_before_the_totals_are_in =
     ∷ an_entry (event.Step (link M A Ctl) 0) answer.Ok []
     ∷ []
 
-own_before_the_totals_are_in_is_wrong : breaks (a_header Nea0 0 (replicate 32 0)) (before_own_before_the_totals_are_in ++ 
+own_before_the_totals_are_in_is_wrong : breaks (a_header Nea0 0 (replicate 32 0)) (before_own_before_the_totals_are_in ++
     an_entry (event.Step (link M A Tun) 0) answer.Ok (line.Note (note.Own A 1 3) ∷ [])
     ∷ []) ≡ placed ∷ come ∷ []
 unfolding sn window modulus distance count_for data_pdu decoded read_data read_report keystream counter_block stream_blocks report_pdu
 own_before_the_totals_are_in_is_wrong = refl
 
-own_before_the_totals_are_in_is_right : breaks (a_header Nea0 0 (replicate 32 0)) (before_own_before_the_totals_are_in ++ 
+own_before_the_totals_are_in_is_right : breaks (a_header Nea0 0 (replicate 32 0)) (before_own_before_the_totals_are_in ++
     an_entry (event.Step (link M A Tun) 0) answer.Ok []
     ∷ []) ≡ []
 unfolding sn window modulus distance count_for data_pdu decoded read_data read_report keystream counter_block stream_blocks report_pdu
@@ -489,13 +489,13 @@ before_payload_handed_up_twice =
     ∷ an_entry (event.Recover 1) answer.Ok (line.Send (link M T Ctl) (flight.Ctl (rec.Recov 1)) ∷ line.Send (link M T Air) (flight.Air 1 1 1 (Some 0) (128 ∷ 0 ∷ 104 ∷ 105 ∷ [])) ∷ [])
     ∷ []
 
-payload_handed_up_twice_is_wrong : breaks (a_header Nea0 0 (replicate 32 0)) (before_payload_handed_up_twice ++ 
+payload_handed_up_twice_is_wrong : breaks (a_header Nea0 0 (replicate 32 0)) (before_payload_handed_up_twice ++
     an_entry (event.Step (link M T Air) 0) answer.Ok (line.Note (note.Up T 1 Dl 0 (104 ∷ 105 ∷ [])) ∷ line.Send (link T M Air) (flight.Ack 1 1 1) ∷ [])
     ∷ []) ≡ front ∷ windowed ∷ []
 unfolding sn window modulus distance count_for data_pdu decoded read_data read_report keystream counter_block stream_blocks report_pdu
 payload_handed_up_twice_is_wrong = refl
 
-payload_handed_up_twice_is_right : breaks (a_header Nea0 0 (replicate 32 0)) (before_payload_handed_up_twice ++ 
+payload_handed_up_twice_is_right : breaks (a_header Nea0 0 (replicate 32 0)) (before_payload_handed_up_twice ++
     an_entry (event.Step (link M T Air) 0) answer.Ok (line.Send (link T M Air) (flight.Ack 1 1 1) ∷ [])
     ∷ []) ≡ []
 unfolding sn window modulus distance count_for data_pdu decoded read_data read_report keystream counter_block stream_blocks report_pdu
@@ -510,13 +510,13 @@ before_pdu_before_rcomp_at_the_master =
     ∷ an_entry (event.RekeyMaster (replicate 32 17)) answer.Ok (line.Note (note.Own M 1 2) ∷ line.Send (link M T Ctl) (flight.Ctl (rec.Reconf (a_plan 2 None (Set 1 S12 0 (a_shape false Mcg false) 0 0 (a_key 1 Master) (Some M) ∷ [])) [])) ∷ [])
     ∷ []
 
-pdu_before_rcomp_at_the_master_is_wrong : breaks (a_header Nea0 0 (replicate 32 0)) (before_pdu_before_rcomp_at_the_master ++ 
+pdu_before_rcomp_at_the_master_is_wrong : breaks (a_header Nea0 0 (replicate 32 0)) (before_pdu_before_rcomp_at_the_master ++
     an_entry (event.Submit 1 Dl (170 ∷ [])) answer.Ok (line.Send (link M T Air) (flight.Air 1 2 0 (Some 0) (128 ∷ 0 ∷ 170 ∷ [])) ∷ [])
     ∷ []) ≡ holder ∷ []
 unfolding sn window modulus distance count_for data_pdu decoded read_data read_report keystream counter_block stream_blocks report_pdu
 pdu_before_rcomp_at_the_master_is_wrong = refl
 
-pdu_before_rcomp_at_the_master_is_right : breaks (a_header Nea0 0 (replicate 32 0)) (before_pdu_before_rcomp_at_the_master ++ 
+pdu_before_rcomp_at_the_master_is_right : breaks (a_header Nea0 0 (replicate 32 0)) (before_pdu_before_rcomp_at_the_master ++
     an_entry (event.Submit 1 Dl (170 ∷ [])) answer.Ok []
     ∷ []) ≡ []
 unfolding sn window modulus distance count_for data_pdu decoded read_data read_report keystream counter_block stream_blocks report_pdu
@@ -539,25 +539,25 @@ before_pdu_before_recfg_at_a_secondary =
     ∷ an_entry (event.Submit 1 Dl (170 ∷ [])) answer.Ok (line.Send (link M A Feed) (flight.Sdu 1 2 (170 ∷ [])) ∷ [])
     ∷ []
 
-pdu_before_recfg_at_a_secondary_is_wrong : breaks (a_header Nea0 0 (replicate 32 0)) (before_pdu_before_recfg_at_a_secondary ++ 
+pdu_before_recfg_at_a_secondary_is_wrong : breaks (a_header Nea0 0 (replicate 32 0)) (before_pdu_before_recfg_at_a_secondary ++
     an_entry (event.Step (link M A Feed) 0) answer.Ok (line.Send (link A T Air) (flight.Air 1 2 0 (Some 0) (128 ∷ 0 ∷ 170 ∷ [])) ∷ [])
     ∷ []) ≡ holder ∷ []
 unfolding sn window modulus distance count_for data_pdu decoded read_data read_report keystream counter_block stream_blocks report_pdu
 pdu_before_recfg_at_a_secondary_is_wrong = refl
 
-pdu_before_recfg_at_a_secondary_is_right : breaks (a_header Nea0 0 (replicate 32 0)) (before_pdu_before_recfg_at_a_secondary ++ 
+pdu_before_recfg_at_a_secondary_is_right : breaks (a_header Nea0 0 (replicate 32 0)) (before_pdu_before_recfg_at_a_secondary ++
     an_entry (event.Step (link M A Feed) 0) answer.Ok []
     ∷ []) ≡ []
 unfolding sn window modulus distance count_for data_pdu decoded read_data read_report keystream counter_block stream_blocks report_pdu
 pdu_before_recfg_at_a_secondary_is_right = refl
 
-pdu_of_no_submission_is_wrong : breaks (a_header Nea0 0 (replicate 32 0)) (before_not_due_rootused ++ 
+pdu_of_no_submission_is_wrong : breaks (a_header Nea0 0 (replicate 32 0)) (before_not_due_rootused ++
     an_entry (event.Submit 1 Dl (104 ∷ 105 ∷ [])) answer.Ok (line.Send (link M T Air) (flight.Air 1 1 0 (Some 1) (128 ∷ 1 ∷ 104 ∷ 105 ∷ [])) ∷ [])
     ∷ []) ≡ protected ∷ come ∷ []
 unfolding sn window modulus distance count_for data_pdu decoded read_data read_report keystream counter_block stream_blocks report_pdu
 pdu_of_no_submission_is_wrong = refl
 
-pdu_of_no_submission_is_right : breaks (a_header Nea0 0 (replicate 32 0)) (before_not_due_rootused ++ 
+pdu_of_no_submission_is_right : breaks (a_header Nea0 0 (replicate 32 0)) (before_not_due_rootused ++
     an_entry (event.Submit 1 Dl (104 ∷ 105 ∷ [])) answer.Ok (line.Send (link M T Air) (flight.Air 1 1 0 (Some 0) (128 ∷ 0 ∷ 104 ∷ 105 ∷ [])) ∷ [])
     ∷ []) ≡ []
 unfolding sn window modulus distance count_for data_pdu decoded read_data read_report keystream counter_block stream_blocks report_pdu
@@ -579,49 +579,49 @@ before_pdu_of_the_anchor_sent_by_the_host =
     ∷ an_entry (event.Step (link T M Ctl) 0) answer.Ok (line.Send (link M A Ctl) (flight.Ctl (rec.Recfg 2)) ∷ line.Note note.Done ∷ [])
     ∷ []
 
-pdu_of_the_anchor_sent_by_the_host_is_wrong : breaks (a_header Nea0 0 (replicate 32 0)) (before_pdu_of_the_anchor_sent_by_the_host ++ 
+pdu_of_the_anchor_sent_by_the_host_is_wrong : breaks (a_header Nea0 0 (replicate 32 0)) (before_pdu_of_the_anchor_sent_by_the_host ++
     an_entry (event.Submit 1 Dl (170 ∷ [])) answer.Ok (line.Send (link A T Air) (flight.Air 1 2 0 (Some 0) (128 ∷ 0 ∷ 170 ∷ [])) ∷ [])
     ∷ []) ≡ protected ∷ holder ∷ licensed ∷ come ∷ []
 unfolding sn window modulus distance count_for data_pdu decoded read_data read_report keystream counter_block stream_blocks report_pdu
 pdu_of_the_anchor_sent_by_the_host_is_wrong = refl
 
-pdu_of_the_anchor_sent_by_the_host_is_right : breaks (a_header Nea0 0 (replicate 32 0)) (before_pdu_of_the_anchor_sent_by_the_host ++ 
+pdu_of_the_anchor_sent_by_the_host_is_right : breaks (a_header Nea0 0 (replicate 32 0)) (before_pdu_of_the_anchor_sent_by_the_host ++
     an_entry (event.Submit 1 Dl (170 ∷ [])) answer.Ok (line.Send (link M A Tun) (flight.Tun (Some 0) (52 ∷ 255 ∷ 0 ∷ 15 ∷ 0 ∷ 0 ∷ 1 ∷ 0 ∷ 0 ∷ 0 ∷ 0 ∷ 132 ∷ 2 ∷ 1 ∷ 0 ∷ 0 ∷ 0 ∷ 0 ∷ 0 ∷ 0 ∷ 128 ∷ 0 ∷ 170 ∷ [])) ∷ [])
     ∷ []) ≡ []
 unfolding sn window modulus distance count_for data_pdu decoded read_data read_report keystream counter_block stream_blocks report_pdu
 pdu_of_the_anchor_sent_by_the_host_is_right = refl
 
-pdu_of_the_generation_before_is_wrong : breaks (a_header Nea0 0 (replicate 32 0)) (before_pdu_before_rcomp_at_the_master ++ 
+pdu_of_the_generation_before_is_wrong : breaks (a_header Nea0 0 (replicate 32 0)) (before_pdu_before_rcomp_at_the_master ++
     an_entry (event.Submit 1 Dl (170 ∷ [])) answer.Ok (line.Send (link M T Air) (flight.Air 1 1 0 (Some 0) (128 ∷ 0 ∷ 170 ∷ [])) ∷ [])
     ∷ []) ≡ holder ∷ []
 unfolding sn window modulus distance count_for data_pdu decoded read_data read_report keystream counter_block stream_blocks report_pdu
 pdu_of_the_generation_before_is_wrong = refl
 
-pdu_of_the_generation_before_is_right : breaks (a_header Nea0 0 (replicate 32 0)) (before_pdu_before_rcomp_at_the_master ++ 
+pdu_of_the_generation_before_is_right : breaks (a_header Nea0 0 (replicate 32 0)) (before_pdu_before_rcomp_at_the_master ++
     an_entry (event.Submit 1 Dl (170 ∷ [])) answer.Ok []
     ∷ []) ≡ []
 unfolding sn window modulus distance count_for data_pdu decoded read_data read_report keystream counter_block stream_blocks report_pdu
 pdu_of_the_generation_before_is_right = refl
 
-pdu_with_a_reserved_bit_is_wrong : breaks (a_header Nea0 0 (replicate 32 0)) (before_not_due_rootused ++ 
+pdu_with_a_reserved_bit_is_wrong : breaks (a_header Nea0 0 (replicate 32 0)) (before_not_due_rootused ++
     an_entry (event.Submit 1 Dl (104 ∷ 105 ∷ [])) answer.Ok (line.Send (link M T Air) (flight.Air 1 1 0 (Some 0) (144 ∷ 0 ∷ 104 ∷ 105 ∷ [])) ∷ [])
     ∷ []) ≡ protected ∷ []
 unfolding sn window modulus distance count_for data_pdu decoded read_data read_report keystream counter_block stream_blocks report_pdu
 pdu_with_a_reserved_bit_is_wrong = refl
 
-pdu_with_a_reserved_bit_is_right : breaks (a_header Nea0 0 (replicate 32 0)) (before_not_due_rootused ++ 
+pdu_with_a_reserved_bit_is_right : breaks (a_header Nea0 0 (replicate 32 0)) (before_not_due_rootused ++
     an_entry (event.Submit 1 Dl (104 ∷ 105 ∷ [])) answer.Ok (line.Send (link M T Air) (flight.Air 1 1 0 (Some 0) (128 ∷ 0 ∷ 104 ∷ 105 ∷ [])) ∷ [])
     ∷ []) ≡ []
 unfolding sn window modulus distance count_for data_pdu decoded read_data read_report keystream counter_block stream_blocks report_pdu
 pdu_with_a_reserved_bit_is_right = refl
 
-pdu_with_another_sn_is_wrong : breaks (a_header Nea0 0 (replicate 32 0)) (before_not_due_rootused ++ 
+pdu_with_another_sn_is_wrong : breaks (a_header Nea0 0 (replicate 32 0)) (before_not_due_rootused ++
     an_entry (event.Submit 1 Dl (104 ∷ 105 ∷ [])) answer.Ok (line.Send (link M T Air) (flight.Air 1 1 0 (Some 0) (128 ∷ 1 ∷ 104 ∷ 105 ∷ [])) ∷ [])
     ∷ []) ≡ protected ∷ []
 unfolding sn window modulus distance count_for data_pdu decoded read_data read_report keystream counter_block stream_blocks report_pdu
 pdu_with_another_sn_is_wrong = refl
 
-pdu_with_another_sn_is_right : breaks (a_header Nea0 0 (replicate 32 0)) (before_not_due_rootused ++ 
+pdu_with_another_sn_is_right : breaks (a_header Nea0 0 (replicate 32 0)) (before_not_due_rootused ++
     an_entry (event.Submit 1 Dl (104 ∷ 105 ∷ [])) answer.Ok (line.Send (link M T Air) (flight.Air 1 1 0 (Some 0) (128 ∷ 0 ∷ 104 ∷ 105 ∷ [])) ∷ [])
     ∷ []) ≡ []
 unfolding sn window modulus distance count_for data_pdu decoded read_data read_report keystream counter_block stream_blocks report_pdu
@@ -644,25 +644,25 @@ before_plan_with_a_bearer_left_out =
     ∷ an_entry (event.Step (link M A Ctl) 0) answer.Ok []
     ∷ []
 
-plan_with_a_bearer_left_out_is_wrong : breaks (a_header Nea0 0 (replicate 32 0)) (before_plan_with_a_bearer_left_out ++ 
+plan_with_a_bearer_left_out_is_wrong : breaks (a_header Nea0 0 (replicate 32 0)) (before_plan_with_a_bearer_left_out ++
     an_entry (event.Release) answer.Ok (line.Send (link M A Ctl) (flight.Ctl (rec.Relreq (a_plan 3 None []))) ∷ [])
     ∷ []) ≡ planned ∷ []
 unfolding sn window modulus distance count_for data_pdu decoded read_data read_report keystream counter_block stream_blocks report_pdu
 plan_with_a_bearer_left_out_is_wrong = refl
 
-plan_with_a_bearer_left_out_is_right : breaks (a_header Nea0 0 (replicate 32 0)) (before_plan_with_a_bearer_left_out ++ 
+plan_with_a_bearer_left_out_is_right : breaks (a_header Nea0 0 (replicate 32 0)) (before_plan_with_a_bearer_left_out ++
     an_entry (event.Release) answer.Ok (line.Send (link M A Ctl) (flight.Ctl (rec.Relreq (a_plan 3 None (Set 1 S12 0 (a_shape false Mcg false) 0 0 (a_key 0 Master) (Some M) ∷ [])))) ∷ [])
     ∷ []) ≡ []
 unfolding sn window modulus distance count_for data_pdu decoded read_data read_report keystream counter_block stream_blocks report_pdu
 plan_with_a_bearer_left_out_is_right = refl
 
-plan_with_a_bearer_too_many_is_wrong : breaks (a_header Nea0 0 (replicate 32 0)) (before_not_due_sameshape ++ 
+plan_with_a_bearer_too_many_is_wrong : breaks (a_header Nea0 0 (replicate 32 0)) (before_not_due_sameshape ++
     an_entry (event.Change) answer.Ok (line.Send (link M B Ctl) (flight.Ctl (rec.Addreq (a_plan 3 (Some B) (Set 1 S12 0 (a_shape false Mcg false) 0 0 (a_key 0 Master) (Some M) ∷ [])) [])) ∷ [])
     ∷ []) ≡ planned ∷ []
 unfolding sn window modulus distance count_for data_pdu decoded read_data read_report keystream counter_block stream_blocks report_pdu
 plan_with_a_bearer_too_many_is_wrong = refl
 
-plan_with_a_bearer_too_many_is_right : breaks (a_header Nea0 0 (replicate 32 0)) (before_not_due_sameshape ++ 
+plan_with_a_bearer_too_many_is_right : breaks (a_header Nea0 0 (replicate 32 0)) (before_not_due_sameshape ++
     an_entry (event.Change) answer.Ok (line.Send (link M B Ctl) (flight.Ctl (rec.Addreq (a_plan 3 (Some B) []) [])) ∷ [])
     ∷ []) ≡ []
 unfolding sn window modulus distance count_for data_pdu decoded read_data read_report keystream counter_block stream_blocks report_pdu
@@ -681,13 +681,13 @@ before_plan_with_another_shape =
     ∷ an_entry (event.Step (link M A Ctl) 0) answer.Ok (line.Note (note.Own A 1 2) ∷ line.Send (link A M Ctl) (flight.Ctl (rec.Modack 2)) ∷ [])
     ∷ []
 
-plan_with_another_shape_is_wrong : breaks (a_header Nea0 0 (replicate 32 0)) (before_plan_with_another_shape ++ 
+plan_with_another_shape_is_wrong : breaks (a_header Nea0 0 (replicate 32 0)) (before_plan_with_another_shape ++
     an_entry (event.Step (link A M Ctl) 0) answer.Ok (line.Send (link M T Ctl) (flight.Ctl (rec.Reconf (a_plan 2 (Some A) (Set 1 S12 0 (a_shape true Mcg false) 0 0 (a_key 0 (SecondKey 0)) None ∷ [])) [])) ∷ [])
     ∷ []) ≡ planned ∷ []
 unfolding sn window modulus distance count_for data_pdu decoded read_data read_report keystream counter_block stream_blocks report_pdu
 plan_with_another_shape_is_wrong = refl
 
-plan_with_another_shape_is_right : breaks (a_header Nea0 0 (replicate 32 0)) (before_plan_with_another_shape ++ 
+plan_with_another_shape_is_right : breaks (a_header Nea0 0 (replicate 32 0)) (before_plan_with_another_shape ++
     an_entry (event.Step (link A M Ctl) 0) answer.Ok (line.Send (link M T Ctl) (flight.Ctl (rec.Reconf (a_plan 2 (Some A) (Set 1 S12 0 (a_shape true Scg false) 0 0 (a_key 0 (SecondKey 0)) None ∷ [])) [])) ∷ [])
     ∷ []) ≡ []
 unfolding sn window modulus distance count_for data_pdu decoded read_data read_report keystream counter_block stream_blocks report_pdu
@@ -718,13 +718,13 @@ before_plan_with_the_wrong_old_anchor =
     ∷ an_entry (event.Step (link T M Ctl) 0) answer.Ok (line.Send (link M A Ctl) (flight.Ctl (rec.Recfg 2)) ∷ line.Note note.Done ∷ [])
     ∷ []
 
-plan_with_the_wrong_old_anchor_is_wrong : breaks (a_header Nea0 0 (replicate 32 0)) (before_plan_with_the_wrong_old_anchor ++ 
+plan_with_the_wrong_old_anchor_is_wrong : breaks (a_header Nea0 0 (replicate 32 0)) (before_plan_with_the_wrong_old_anchor ++
     an_entry (event.Reshape 1 (a_shape true Scg false)) answer.Ok (line.Send (link M A Ctl) (flight.Ctl (rec.Modreq (a_plan 3 (Some A) (Set 1 S12 0 (a_shape true Scg false) 0 0 (a_key 0 (SecondKey 0)) None ∷ [])) [])) ∷ [])
     ∷ []) ≡ planned ∷ []
 unfolding sn window modulus distance count_for data_pdu decoded read_data read_report keystream counter_block stream_blocks report_pdu
 plan_with_the_wrong_old_anchor_is_wrong = refl
 
-plan_with_the_wrong_old_anchor_is_right : breaks (a_header Nea0 0 (replicate 32 0)) (before_plan_with_the_wrong_old_anchor ++ 
+plan_with_the_wrong_old_anchor_is_right : breaks (a_header Nea0 0 (replicate 32 0)) (before_plan_with_the_wrong_old_anchor ++
     an_entry (event.Reshape 1 (a_shape true Scg false)) answer.Ok (line.Send (link M A Ctl) (flight.Ctl (rec.Modreq (a_plan 3 (Some A) (Set 1 S12 0 (a_shape true Scg false) 0 0 (a_key 0 (SecondKey 0)) (Some M) ∷ [])) [])) ∷ [])
     ∷ []) ≡ []
 unfolding sn window modulus distance count_for data_pdu decoded read_data read_report keystream counter_block stream_blocks report_pdu
@@ -737,13 +737,13 @@ before_plan_with_the_wrong_secondary =
     ∷ an_entry (event.Step (link M A Ctl) 0) answer.Ok (line.Note (note.Join A 1) ∷ line.Send (link A M Ctl) (flight.Ctl (rec.Addack 1)) ∷ [])
     ∷ []
 
-plan_with_the_wrong_secondary_is_wrong : breaks (a_header Nea0 0 (replicate 32 0)) (before_plan_with_the_wrong_secondary ++ 
+plan_with_the_wrong_secondary_is_wrong : breaks (a_header Nea0 0 (replicate 32 0)) (before_plan_with_the_wrong_secondary ++
     an_entry (event.Step (link A M Ctl) 0) answer.Ok (line.Send (link M T Ctl) (flight.Ctl (rec.Reconf (a_plan 1 (Some B) []) [])) ∷ [])
     ∷ []) ≡ planned ∷ []
 unfolding sn window modulus distance count_for data_pdu decoded read_data read_report keystream counter_block stream_blocks report_pdu
 plan_with_the_wrong_secondary_is_wrong = refl
 
-plan_with_the_wrong_secondary_is_right : breaks (a_header Nea0 0 (replicate 32 0)) (before_plan_with_the_wrong_secondary ++ 
+plan_with_the_wrong_secondary_is_right : breaks (a_header Nea0 0 (replicate 32 0)) (before_plan_with_the_wrong_secondary ++
     an_entry (event.Step (link A M Ctl) 0) answer.Ok (line.Send (link M T Ctl) (flight.Ctl (rec.Reconf (a_plan 1 (Some A) []) [])) ∷ [])
     ∷ []) ≡ []
 unfolding sn window modulus distance count_for data_pdu decoded read_data read_report keystream counter_block stream_blocks report_pdu
@@ -755,13 +755,13 @@ before_rcomp_twice =
     an_entry (event.Bearer 1 S12 0 (a_shape false Mcg false) 0 0) answer.Ok (line.Note (note.Own M 1 1) ∷ line.Send (link M T Ctl) (flight.Ctl (rec.Reconf (a_plan 1 None (Set 1 S12 0 (a_shape false Mcg false) 0 0 (a_key 0 Master) None ∷ [])) [])) ∷ [])
     ∷ []
 
-rcomp_twice_is_wrong : breaks (a_header Nea0 0 (replicate 32 0)) (before_rcomp_twice ++ 
+rcomp_twice_is_wrong : breaks (a_header Nea0 0 (replicate 32 0)) (before_rcomp_twice ++
     an_entry (event.Step (link M T Ctl) 0) answer.Ok (line.Note (note.Set 1 1) ∷ line.Send (link T M Ctl) (flight.Ctl (rec.Rcomp 1)) ∷ line.Send (link T M Ctl) (flight.Ctl (rec.Rcomp 1)) ∷ [])
     ∷ []) ≡ licensed ∷ []
 unfolding sn window modulus distance count_for data_pdu decoded read_data read_report keystream counter_block stream_blocks report_pdu
 rcomp_twice_is_wrong = refl
 
-rcomp_twice_is_right : breaks (a_header Nea0 0 (replicate 32 0)) (before_rcomp_twice ++ 
+rcomp_twice_is_right : breaks (a_header Nea0 0 (replicate 32 0)) (before_rcomp_twice ++
     an_entry (event.Step (link M T Ctl) 0) answer.Ok (line.Note (note.Set 1 1) ∷ line.Send (link T M Ctl) (flight.Ctl (rec.Rcomp 1)) ∷ [])
     ∷ []) ≡ []
 unfolding sn window modulus distance count_for data_pdu decoded read_data read_report keystream counter_block stream_blocks report_pdu
@@ -783,13 +783,13 @@ before_recfg_where_modcnf_is_due =
     ∷ an_entry (event.Step (link M T Ctl) 0) answer.Ok (line.Send (link T M Ctl) (flight.Ctl (rec.Rcomp 2)) ∷ [])
     ∷ []
 
-recfg_where_modcnf_is_due_is_wrong : breaks (a_header Nea0 0 (replicate 32 0)) (before_recfg_where_modcnf_is_due ++ 
+recfg_where_modcnf_is_due_is_wrong : breaks (a_header Nea0 0 (replicate 32 0)) (before_recfg_where_modcnf_is_due ++
     an_entry (event.Step (link T M Ctl) 0) answer.Ok (line.Send (link M A Ctl) (flight.Ctl (rec.Recfg 2)) ∷ line.Note note.Done ∷ [])
     ∷ []) ≡ licensed ∷ []
 unfolding sn window modulus distance count_for data_pdu decoded read_data read_report keystream counter_block stream_blocks report_pdu
 recfg_where_modcnf_is_due_is_wrong = refl
 
-recfg_where_modcnf_is_due_is_right : breaks (a_header Nea0 0 (replicate 32 0)) (before_recfg_where_modcnf_is_due ++ 
+recfg_where_modcnf_is_due_is_right : breaks (a_header Nea0 0 (replicate 32 0)) (before_recfg_where_modcnf_is_due ++
     an_entry (event.Step (link T M Ctl) 0) answer.Ok (line.Send (link M A Ctl) (flight.Ctl (rec.Modcnf 2)) ∷ line.Note note.Done ∷ [])
     ∷ []) ≡ []
 unfolding sn window modulus distance count_for data_pdu decoded read_data read_report keystream counter_block stream_blocks report_pdu
@@ -802,13 +802,13 @@ before_recfg_without_a_request =
     ∷ an_entry (event.Step (link M T Ctl) 0) answer.Ok (line.Note (note.Set 1 1) ∷ line.Send (link T M Ctl) (flight.Ctl (rec.Rcomp 1)) ∷ [])
     ∷ []
 
-recfg_without_a_request_is_wrong : breaks (a_header Nea0 0 (replicate 32 0)) (before_recfg_without_a_request ++ 
+recfg_without_a_request_is_wrong : breaks (a_header Nea0 0 (replicate 32 0)) (before_recfg_without_a_request ++
     an_entry (event.Step (link T M Ctl) 0) answer.Ok (line.Send (link M A Ctl) (flight.Ctl (rec.Recfg 1)) ∷ line.Note note.Done ∷ [])
     ∷ []) ≡ licensed ∷ []
 unfolding sn window modulus distance count_for data_pdu decoded read_data read_report keystream counter_block stream_blocks report_pdu
 recfg_without_a_request_is_wrong = refl
 
-recfg_without_a_request_is_right : breaks (a_header Nea0 0 (replicate 32 0)) (before_recfg_without_a_request ++ 
+recfg_without_a_request_is_right : breaks (a_header Nea0 0 (replicate 32 0)) (before_recfg_without_a_request ++
     an_entry (event.Step (link T M Ctl) 0) answer.Ok (line.Note note.Done ∷ [])
     ∷ []) ≡ []
 unfolding sn window modulus distance count_for data_pdu decoded read_data read_report keystream counter_block stream_blocks report_pdu
@@ -825,13 +825,13 @@ before_reconf_before_the_acknowledge =
     ∷ an_entry (event.Step (link M A Ctl) 0) answer.Ok []
     ∷ []
 
-reconf_before_the_acknowledge_is_wrong : breaks (a_header Nea0 0 (replicate 32 0)) (before_reconf_before_the_acknowledge ++ 
+reconf_before_the_acknowledge_is_wrong : breaks (a_header Nea0 0 (replicate 32 0)) (before_reconf_before_the_acknowledge ++
     an_entry (event.Bearer 1 S12 0 (a_shape false Scg false) 0 0) answer.Ok (line.Send (link M T Ctl) (flight.Ctl (rec.Reconf (a_plan 2 (Some A) (Set 1 S12 0 (a_shape false Scg false) 0 0 (a_key 0 Master) None ∷ [])) [])) ∷ line.Send (link M A Ctl) (flight.Ctl (rec.Modreq (a_plan 2 (Some A) (Set 1 S12 0 (a_shape false Scg false) 0 0 (a_key 0 Master) None ∷ [])) [])) ∷ [])
     ∷ []) ≡ licensed ∷ come ∷ []
 unfolding sn window modulus distance count_for data_pdu decoded read_data read_report keystream counter_block stream_blocks report_pdu
 reconf_before_the_acknowledge_is_wrong = refl
 
-reconf_before_the_acknowledge_is_right : breaks (a_header Nea0 0 (replicate 32 0)) (before_reconf_before_the_acknowledge ++ 
+reconf_before_the_acknowledge_is_right : breaks (a_header Nea0 0 (replicate 32 0)) (before_reconf_before_the_acknowledge ++
     an_entry (event.Bearer 1 S12 0 (a_shape false Scg false) 0 0) answer.Ok (line.Send (link M A Ctl) (flight.Ctl (rec.Modreq (a_plan 2 (Some A) (Set 1 S12 0 (a_shape false Scg false) 0 0 (a_key 0 Master) None ∷ [])) [])) ∷ [])
     ∷ []) ≡ []
 unfolding sn window modulus distance count_for data_pdu decoded read_data read_report keystream counter_block stream_blocks report_pdu
@@ -849,13 +849,13 @@ reconf_twice_is_right : breaks (a_header Nea0 0 (replicate 32 0)) (
 unfolding sn window modulus distance count_for data_pdu decoded read_data read_report keystream counter_block stream_blocks report_pdu
 reconf_twice_is_right = refl
 
-recov_twice_for_one_recover_is_wrong : breaks (a_header Nea0 0 (replicate 32 0)) (before_not_due_rootused ++ 
+recov_twice_for_one_recover_is_wrong : breaks (a_header Nea0 0 (replicate 32 0)) (before_not_due_rootused ++
     an_entry (event.Recover 1) answer.Ok (line.Send (link M T Ctl) (flight.Ctl (rec.Recov 1)) ∷ line.Send (link M T Ctl) (flight.Ctl (rec.Recov 1)) ∷ [])
     ∷ []) ≡ licensed ∷ []
 unfolding sn window modulus distance count_for data_pdu decoded read_data read_report keystream counter_block stream_blocks report_pdu
 recov_twice_for_one_recover_is_wrong = refl
 
-recov_twice_for_one_recover_is_right : breaks (a_header Nea0 0 (replicate 32 0)) (before_not_due_rootused ++ 
+recov_twice_for_one_recover_is_right : breaks (a_header Nea0 0 (replicate 32 0)) (before_not_due_rootused ++
     an_entry (event.Recover 1) answer.Ok (line.Send (link M T Ctl) (flight.Ctl (rec.Recov 1)) ∷ [])
     ∷ []) ≡ []
 unfolding sn window modulus distance count_for data_pdu decoded read_data read_report keystream counter_block stream_blocks report_pdu
@@ -870,13 +870,13 @@ before_recovd_twice =
     ∷ an_entry (event.Recover 1) answer.Ok (line.Send (link M T Ctl) (flight.Ctl (rec.Recov 1)) ∷ [])
     ∷ []
 
-recovd_twice_is_wrong : breaks (a_header Nea0 0 (replicate 32 0)) (before_recovd_twice ++ 
+recovd_twice_is_wrong : breaks (a_header Nea0 0 (replicate 32 0)) (before_recovd_twice ++
     an_entry (event.Step (link M T Ctl) 0) answer.Ok (line.Send (link T M Ctl) (flight.Ctl (rec.Recovd 1)) ∷ line.Send (link T M Ctl) (flight.Ctl (rec.Recovd 1)) ∷ [])
     ∷ []) ≡ licensed ∷ []
 unfolding sn window modulus distance count_for data_pdu decoded read_data read_report keystream counter_block stream_blocks report_pdu
 recovd_twice_is_wrong = refl
 
-recovd_twice_is_right : breaks (a_header Nea0 0 (replicate 32 0)) (before_recovd_twice ++ 
+recovd_twice_is_right : breaks (a_header Nea0 0 (replicate 32 0)) (before_recovd_twice ++
     an_entry (event.Step (link M T Ctl) 0) answer.Ok (line.Send (link T M Ctl) (flight.Ctl (rec.Recovd 1)) ∷ [])
     ∷ []) ≡ []
 unfolding sn window modulus distance count_for data_pdu decoded read_data read_report keystream counter_block stream_blocks report_pdu
@@ -893,13 +893,13 @@ before_recover_that_ends_at_once =
     ∷ an_entry (event.Step (link T M Air) 0) answer.Ok (line.Note (note.Freed 1 Dl 1) ∷ [])
     ∷ []
 
-recover_that_ends_at_once_is_wrong : breaks (a_header Nea0 0 (replicate 32 0)) (before_recover_that_ends_at_once ++ 
+recover_that_ends_at_once_is_wrong : breaks (a_header Nea0 0 (replicate 32 0)) (before_recover_that_ends_at_once ++
     an_entry (event.Recover 1) answer.Ok (line.Send (link M T Ctl) (flight.Ctl (rec.Recov 1)) ∷ line.Note note.Done ∷ [])
     ∷ []) ≡ placed ∷ []
 unfolding sn window modulus distance count_for data_pdu decoded read_data read_report keystream counter_block stream_blocks report_pdu
 recover_that_ends_at_once_is_wrong = refl
 
-recover_that_ends_at_once_is_right : breaks (a_header Nea0 0 (replicate 32 0)) (before_recover_that_ends_at_once ++ 
+recover_that_ends_at_once_is_right : breaks (a_header Nea0 0 (replicate 32 0)) (before_recover_that_ends_at_once ++
     an_entry (event.Recover 1) answer.Ok (line.Send (link M T Ctl) (flight.Ctl (rec.Recov 1)) ∷ [])
     ∷ []) ≡ []
 unfolding sn window modulus distance count_for data_pdu decoded read_data read_report keystream counter_block stream_blocks report_pdu
@@ -915,13 +915,13 @@ before_recover_that_never_ends =
     ∷ an_entry (event.Step (link M T Ctl) 0) answer.Ok (line.Send (link T M Ctl) (flight.Ctl (rec.Recovd 1)) ∷ [])
     ∷ []
 
-recover_that_never_ends_is_wrong : breaks (a_header Nea0 0 (replicate 32 0)) (before_recover_that_never_ends ++ 
+recover_that_never_ends_is_wrong : breaks (a_header Nea0 0 (replicate 32 0)) (before_recover_that_never_ends ++
     an_entry (event.Step (link T M Ctl) 0) answer.Ok []
     ∷ []) ≡ come ∷ unstalled ∷ []
 unfolding sn window modulus distance count_for data_pdu decoded read_data read_report keystream counter_block stream_blocks report_pdu
 recover_that_never_ends_is_wrong = refl
 
-recover_that_never_ends_is_right : breaks (a_header Nea0 0 (replicate 32 0)) (before_recover_that_never_ends ++ 
+recover_that_never_ends_is_right : breaks (a_header Nea0 0 (replicate 32 0)) (before_recover_that_never_ends ++
     an_entry (event.Step (link T M Ctl) 0) answer.Ok (line.Note note.Done ∷ [])
     ∷ []) ≡ []
 unfolding sn window modulus distance count_for data_pdu decoded read_data read_report keystream counter_block stream_blocks report_pdu
@@ -937,25 +937,25 @@ before_recover_that_sends_nothing_again =
     ∷ an_entry (event.Step (link M T Air) 0) answer.Ok (line.Note (note.Up T 1 Dl 0 (104 ∷ 105 ∷ [])) ∷ line.Send (link T M Air) (flight.Ack 1 1 0) ∷ [])
     ∷ []
 
-recover_that_sends_nothing_again_is_wrong : breaks (a_header Nea0 0 (replicate 32 0)) (before_recover_that_sends_nothing_again ++ 
+recover_that_sends_nothing_again_is_wrong : breaks (a_header Nea0 0 (replicate 32 0)) (before_recover_that_sends_nothing_again ++
     an_entry (event.Recover 1) answer.Ok (line.Send (link M T Ctl) (flight.Ctl (rec.Recov 1)) ∷ [])
     ∷ []) ≡ come ∷ []
 unfolding sn window modulus distance count_for data_pdu decoded read_data read_report keystream counter_block stream_blocks report_pdu
 recover_that_sends_nothing_again_is_wrong = refl
 
-recover_that_sends_nothing_again_is_right : breaks (a_header Nea0 0 (replicate 32 0)) (before_recover_that_sends_nothing_again ++ 
+recover_that_sends_nothing_again_is_right : breaks (a_header Nea0 0 (replicate 32 0)) (before_recover_that_sends_nothing_again ++
     an_entry (event.Recover 1) answer.Ok (line.Send (link M T Ctl) (flight.Ctl (rec.Recov 1)) ∷ line.Send (link M T Air) (flight.Air 1 1 1 (Some 0) (128 ∷ 0 ∷ 104 ∷ 105 ∷ [])) ∷ [])
     ∷ []) ≡ []
 unfolding sn window modulus distance count_for data_pdu decoded read_data read_report keystream counter_block stream_blocks report_pdu
 recover_that_sends_nothing_again_is_right = refl
 
-recover_without_its_record_is_wrong : breaks (a_header Nea0 0 (replicate 32 0)) (before_recover_that_sends_nothing_again ++ 
+recover_without_its_record_is_wrong : breaks (a_header Nea0 0 (replicate 32 0)) (before_recover_that_sends_nothing_again ++
     an_entry (event.Recover 1) answer.Ok (line.Send (link M T Air) (flight.Air 1 1 1 (Some 0) (128 ∷ 0 ∷ 104 ∷ 105 ∷ [])) ∷ [])
     ∷ []) ≡ come ∷ []
 unfolding sn window modulus distance count_for data_pdu decoded read_data read_report keystream counter_block stream_blocks report_pdu
 recover_without_its_record_is_wrong = refl
 
-recover_without_its_record_is_right : breaks (a_header Nea0 0 (replicate 32 0)) (before_recover_that_sends_nothing_again ++ 
+recover_without_its_record_is_right : breaks (a_header Nea0 0 (replicate 32 0)) (before_recover_that_sends_nothing_again ++
     an_entry (event.Recover 1) answer.Ok (line.Send (link M T Ctl) (flight.Ctl (rec.Recov 1)) ∷ line.Send (link M T Air) (flight.Air 1 1 1 (Some 0) (128 ∷ 0 ∷ 104 ∷ 105 ∷ [])) ∷ [])
     ∷ []) ≡ []
 unfolding sn window modulus distance count_for data_pdu decoded read_data read_report keystream counter_block stream_blocks report_pdu
@@ -980,7 +980,7 @@ before_recovery_does_not_bring_what_was_lost =
     ∷ an_entry (event.Lose (link M A Tun) 0) answer.Ok []
     ∷ []
 
-recovery_does_not_bring_what_was_lost_is_wrong : breaks (a_header Nea0 0 (replicate 32 0)) (before_recovery_does_not_bring_what_was_lost ++ 
+recovery_does_not_bring_what_was_lost_is_wrong : breaks (a_header Nea0 0 (replicate 32 0)) (before_recovery_does_not_bring_what_was_lost ++
     an_entry (event.Recover 1) answer.Ok (line.Send (link M T Ctl) (flight.Ctl (rec.Recov 1)) ∷ [])
     ∷ an_entry (event.Step (link M T Ctl) 0) answer.Ok (line.Send (link T M Ctl) (flight.Ctl (rec.Recovd 1)) ∷ [])
     ∷ an_entry (event.Step (link T M Ctl) 0) answer.Ok (line.Note note.Done ∷ [])
@@ -988,7 +988,7 @@ recovery_does_not_bring_what_was_lost_is_wrong : breaks (a_header Nea0 0 (replic
 unfolding sn window modulus distance count_for data_pdu decoded read_data read_report keystream counter_block stream_blocks report_pdu
 recovery_does_not_bring_what_was_lost_is_wrong = refl
 
-recovery_does_not_bring_what_was_lost_is_right : breaks (a_header Nea0 0 (replicate 32 0)) (before_recovery_does_not_bring_what_was_lost ++ 
+recovery_does_not_bring_what_was_lost_is_right : breaks (a_header Nea0 0 (replicate 32 0)) (before_recovery_does_not_bring_what_was_lost ++
     an_entry (event.Recover 1) answer.Ok (line.Send (link M T Ctl) (flight.Ctl (rec.Recov 1)) ∷ line.Send (link M A Tun) (flight.Tun (Some 0) (52 ∷ 255 ∷ 0 ∷ 15 ∷ 0 ∷ 0 ∷ 1 ∷ 0 ∷ 0 ∷ 0 ∷ 0 ∷ 132 ∷ 2 ∷ 3 ∷ 0 ∷ 0 ∷ 1 ∷ 0 ∷ 0 ∷ 0 ∷ 128 ∷ 0 ∷ 170 ∷ [])) ∷ [])
     ∷ an_entry (event.Step (link M T Ctl) 0) answer.Ok (line.Send (link T M Ctl) (flight.Ctl (rec.Recovd 1)) ∷ [])
     ∷ an_entry (event.Step (link T M Ctl) 0) answer.Ok (line.Note note.Done ∷ [])
@@ -996,13 +996,13 @@ recovery_does_not_bring_what_was_lost_is_right : breaks (a_header Nea0 0 (replic
 unfolding sn window modulus distance count_for data_pdu decoded read_data read_report keystream counter_block stream_blocks report_pdu
 recovery_does_not_bring_what_was_lost_is_right = refl
 
-recovery_of_a_confirmed_count_is_wrong : breaks (a_header Nea0 0 (replicate 32 0)) (before_recover_that_ends_at_once ++ 
+recovery_of_a_confirmed_count_is_wrong : breaks (a_header Nea0 0 (replicate 32 0)) (before_recover_that_ends_at_once ++
     an_entry (event.Recover 1) answer.Ok (line.Send (link M T Ctl) (flight.Ctl (rec.Recov 1)) ∷ line.Send (link M T Air) (flight.Air 1 1 1 (Some 0) (128 ∷ 0 ∷ 104 ∷ 105 ∷ [])) ∷ [])
     ∷ []) ≡ licensed ∷ []
 unfolding sn window modulus distance count_for data_pdu decoded read_data read_report keystream counter_block stream_blocks report_pdu
 recovery_of_a_confirmed_count_is_wrong = refl
 
-recovery_of_a_confirmed_count_is_right : breaks (a_header Nea0 0 (replicate 32 0)) (before_recover_that_ends_at_once ++ 
+recovery_of_a_confirmed_count_is_right : breaks (a_header Nea0 0 (replicate 32 0)) (before_recover_that_ends_at_once ++
     an_entry (event.Recover 1) answer.Ok (line.Send (link M T Ctl) (flight.Ctl (rec.Recov 1)) ∷ [])
     ∷ []) ≡ []
 unfolding sn window modulus distance count_for data_pdu decoded read_data read_report keystream counter_block stream_blocks report_pdu
@@ -1022,13 +1022,13 @@ before_refused_with_another_word =
     ∷ an_entry (event.Step (link A M Ctl) 0) answer.Ok (line.Send (link M A Ctl) (flight.Ctl (rec.Modref word.Busy)) ∷ [])
     ∷ []
 
-refused_with_another_word_is_wrong : breaks (a_header Nea0 0 (replicate 32 0)) (before_refused_with_another_word ++ 
+refused_with_another_word_is_wrong : breaks (a_header Nea0 0 (replicate 32 0)) (before_refused_with_another_word ++
     an_entry (event.Step (link M A Ctl) 0) answer.Ok (line.Note (note.Refused A word.CounterSpent) ∷ [])
     ∷ []) ≡ placed ∷ []
 unfolding sn window modulus distance count_for data_pdu decoded read_data read_report keystream counter_block stream_blocks report_pdu
 refused_with_another_word_is_wrong = refl
 
-refused_with_another_word_is_right : breaks (a_header Nea0 0 (replicate 32 0)) (before_refused_with_another_word ++ 
+refused_with_another_word_is_right : breaks (a_header Nea0 0 (replicate 32 0)) (before_refused_with_another_word ++
     an_entry (event.Step (link M A Ctl) 0) answer.Ok (line.Note (note.Refused A word.Busy) ∷ [])
     ∷ []) ≡ []
 unfolding sn window modulus distance count_for data_pdu decoded read_data read_report keystream counter_block stream_blocks report_pdu
@@ -1046,13 +1046,13 @@ rejected_line_in_a_command_without_a_request_is_right : breaks (a_header Nea0 0 
 unfolding sn window modulus distance count_for data_pdu decoded read_data read_report keystream counter_block stream_blocks report_pdu
 rejected_line_in_a_command_without_a_request_is_right = refl
 
-rejected_without_a_rejection_is_wrong : breaks (a_header Nea0 0 (replicate 32 0)) (before_plan_with_the_wrong_secondary ++ 
+rejected_without_a_rejection_is_wrong : breaks (a_header Nea0 0 (replicate 32 0)) (before_plan_with_the_wrong_secondary ++
     an_entry (event.Step (link A M Ctl) 0) answer.Ok (line.Note note.Rejected ∷ [])
     ∷ []) ≡ placed ∷ come ∷ []
 unfolding sn window modulus distance count_for data_pdu decoded read_data read_report keystream counter_block stream_blocks report_pdu
 rejected_without_a_rejection_is_wrong = refl
 
-rejected_without_a_rejection_is_right : breaks (a_header Nea0 0 (replicate 32 0)) (before_plan_with_the_wrong_secondary ++ 
+rejected_without_a_rejection_is_right : breaks (a_header Nea0 0 (replicate 32 0)) (before_plan_with_the_wrong_secondary ++
     an_entry (event.Step (link A M Ctl) 0) answer.Ok (line.Send (link M T Ctl) (flight.Ctl (rec.Reconf (a_plan 1 (Some A) []) [])) ∷ [])
     ∷ []) ≡ []
 unfolding sn window modulus distance count_for data_pdu decoded read_data read_report keystream counter_block stream_blocks report_pdu
@@ -1066,13 +1066,13 @@ before_rejection_that_does_not_end_the_command =
     ∷ an_entry (event.Step (link M A Ctl) 0) answer.Ok (line.Send (link A M Ctl) (flight.Ctl (rec.Addrej 1)) ∷ [])
     ∷ []
 
-rejection_that_does_not_end_the_command_is_wrong : breaks (a_header Nea0 0 (replicate 32 0)) (before_rejection_that_does_not_end_the_command ++ 
+rejection_that_does_not_end_the_command_is_wrong : breaks (a_header Nea0 0 (replicate 32 0)) (before_rejection_that_does_not_end_the_command ++
     an_entry (event.Step (link A M Ctl) 0) answer.Ok []
     ∷ []) ≡ come ∷ unstalled ∷ []
 unfolding sn window modulus distance count_for data_pdu decoded read_data read_report keystream counter_block stream_blocks report_pdu
 rejection_that_does_not_end_the_command_is_wrong = refl
 
-rejection_that_does_not_end_the_command_is_right : breaks (a_header Nea0 0 (replicate 32 0)) (before_rejection_that_does_not_end_the_command ++ 
+rejection_that_does_not_end_the_command_is_right : breaks (a_header Nea0 0 (replicate 32 0)) (before_rejection_that_does_not_end_the_command ++
     an_entry (event.Step (link A M Ctl) 0) answer.Ok (line.Note note.Rejected ∷ [])
     ∷ []) ≡ []
 unfolding sn window modulus distance count_for data_pdu decoded read_data read_report keystream counter_block stream_blocks report_pdu
@@ -1093,13 +1093,13 @@ before_relcnf_0_before_the_open_command_ends =
     ∷ an_entry (event.Step (link B M Ctl) 0) answer.Ok (line.Send (link M T Ctl) (flight.Ctl (rec.Reconf (a_plan 2 (Some B) []) [])) ∷ line.Send (link M A Ctl) (flight.Ctl (rec.Relreq (a_plan 2 (Some B) []))) ∷ [])
     ∷ []
 
-relcnf_0_before_the_open_command_ends_is_wrong : breaks (a_header Nea0 0 (replicate 32 0)) (before_relcnf_0_before_the_open_command_ends ++ 
+relcnf_0_before_the_open_command_ends_is_wrong : breaks (a_header Nea0 0 (replicate 32 0)) (before_relcnf_0_before_the_open_command_ends ++
     an_entry (event.Step (link A M Ctl) 0) answer.Ok (line.Send (link M A Ctl) (flight.Ctl (rec.Relcnf (a_plan 0 None []))) ∷ [])
     ∷ []) ≡ licensed ∷ replied ∷ []
 unfolding sn window modulus distance count_for data_pdu decoded read_data read_report keystream counter_block stream_blocks report_pdu
 relcnf_0_before_the_open_command_ends_is_wrong = refl
 
-relcnf_0_before_the_open_command_ends_is_right : breaks (a_header Nea0 0 (replicate 32 0)) (before_relcnf_0_before_the_open_command_ends ++ 
+relcnf_0_before_the_open_command_ends_is_right : breaks (a_header Nea0 0 (replicate 32 0)) (before_relcnf_0_before_the_open_command_ends ++
     an_entry (event.Step (link A M Ctl) 0) answer.Ok []
     ∷ []) ≡ []
 unfolding sn window modulus distance count_for data_pdu decoded read_data read_report keystream counter_block stream_blocks report_pdu
@@ -1136,13 +1136,13 @@ before_release_done_in_the_event_in_which_it_begins =
     ∷ an_entry (event.Step (link A M Tun) 0) answer.Ok []
     ∷ []
 
-release_done_in_the_event_in_which_it_begins_is_wrong : breaks (a_header Nea0 0 (replicate 32 0)) (before_release_done_in_the_event_in_which_it_begins ++ 
+release_done_in_the_event_in_which_it_begins_is_wrong : breaks (a_header Nea0 0 (replicate 32 0)) (before_release_done_in_the_event_in_which_it_begins ++
     an_entry (event.Step (link A M Tun) 0) answer.Ok (line.Note (note.Own M 1 3) ∷ line.Send (link M T Air) (flight.Air 1 3 0 (Some 0) (128 ∷ 0 ∷ 170 ∷ [])) ∷ line.Note note.Done ∷ line.Note (note.Begin want.Release) ∷ line.Note (note.Own M 1 4) ∷ line.Send (link M T Ctl) (flight.Ctl (rec.Reconf (a_plan 4 None (Set 1 S12 0 (a_shape false Mcg false) 0 0 (a_key 0 Master) (Some M) ∷ [])) [])) ∷ line.Send (link M A Ctl) (flight.Ctl (rec.Relcnf (a_plan 4 None (Set 1 S12 0 (a_shape false Mcg false) 0 0 (a_key 0 Master) (Some M) ∷ [])))) ∷ line.Note note.Done ∷ [])
     ∷ []) ≡ placed ∷ []
 unfolding sn window modulus distance count_for data_pdu decoded read_data read_report keystream counter_block stream_blocks report_pdu
 release_done_in_the_event_in_which_it_begins_is_wrong = refl
 
-release_done_in_the_event_in_which_it_begins_is_right : breaks (a_header Nea0 0 (replicate 32 0)) (before_release_done_in_the_event_in_which_it_begins ++ 
+release_done_in_the_event_in_which_it_begins_is_right : breaks (a_header Nea0 0 (replicate 32 0)) (before_release_done_in_the_event_in_which_it_begins ++
     an_entry (event.Step (link A M Tun) 0) answer.Ok (line.Note (note.Own M 1 3) ∷ line.Send (link M T Air) (flight.Air 1 3 0 (Some 0) (128 ∷ 0 ∷ 170 ∷ [])) ∷ line.Note note.Done ∷ line.Note (note.Begin want.Release) ∷ line.Note (note.Own M 1 4) ∷ line.Send (link M T Ctl) (flight.Ctl (rec.Reconf (a_plan 4 None (Set 1 S12 0 (a_shape false Mcg false) 0 0 (a_key 0 Master) (Some M) ∷ [])) [])) ∷ line.Send (link M A Ctl) (flight.Ctl (rec.Relcnf (a_plan 4 None (Set 1 S12 0 (a_shape false Mcg false) 0 0 (a_key 0 Master) (Some M) ∷ [])))) ∷ [])
     ∷ []) ≡ []
 unfolding sn window modulus distance count_for data_pdu decoded read_data read_report keystream counter_block stream_blocks report_pdu
@@ -1162,25 +1162,25 @@ before_relreq_where_chgcnf_is_due =
     ∷ an_entry (event.Step (link M B Ctl) 0) answer.Ok (line.Note (note.Join B 2) ∷ line.Send (link B M Ctl) (flight.Ctl (rec.Addack 2)) ∷ [])
     ∷ []
 
-relreq_where_chgcnf_is_due_is_wrong : breaks (a_header Nea0 0 (replicate 32 0)) (before_relreq_where_chgcnf_is_due ++ 
+relreq_where_chgcnf_is_due_is_wrong : breaks (a_header Nea0 0 (replicate 32 0)) (before_relreq_where_chgcnf_is_due ++
     an_entry (event.Step (link B M Ctl) 0) answer.Ok (line.Send (link M T Ctl) (flight.Ctl (rec.Reconf (a_plan 2 (Some B) []) [])) ∷ line.Send (link M A Ctl) (flight.Ctl (rec.Relreq (a_plan 2 (Some B) []))) ∷ [])
     ∷ []) ≡ licensed ∷ []
 unfolding sn window modulus distance count_for data_pdu decoded read_data read_report keystream counter_block stream_blocks report_pdu
 relreq_where_chgcnf_is_due_is_wrong = refl
 
-relreq_where_chgcnf_is_due_is_right : breaks (a_header Nea0 0 (replicate 32 0)) (before_relreq_where_chgcnf_is_due ++ 
+relreq_where_chgcnf_is_due_is_right : breaks (a_header Nea0 0 (replicate 32 0)) (before_relreq_where_chgcnf_is_due ++
     an_entry (event.Step (link B M Ctl) 0) answer.Ok (line.Send (link M T Ctl) (flight.Ctl (rec.Reconf (a_plan 2 (Some B) []) [])) ∷ line.Send (link M A Ctl) (flight.Ctl (rec.Chgcnf (a_plan 2 (Some B) []))) ∷ [])
     ∷ []) ≡ []
 unfolding sn window modulus distance count_for data_pdu decoded read_data read_report keystream counter_block stream_blocks report_pdu
 relreq_where_chgcnf_is_due_is_right = refl
 
-repeat_flag_on_a_first_send_is_wrong : breaks (a_header Nea0 0 (replicate 32 0)) (before_pdu_of_the_anchor_sent_by_the_host ++ 
+repeat_flag_on_a_first_send_is_wrong : breaks (a_header Nea0 0 (replicate 32 0)) (before_pdu_of_the_anchor_sent_by_the_host ++
     an_entry (event.Submit 1 Dl (170 ∷ [])) answer.Ok (line.Send (link M A Tun) (flight.Tun (Some 0) (52 ∷ 255 ∷ 0 ∷ 15 ∷ 0 ∷ 0 ∷ 1 ∷ 0 ∷ 0 ∷ 0 ∷ 0 ∷ 132 ∷ 2 ∷ 3 ∷ 0 ∷ 0 ∷ 0 ∷ 0 ∷ 0 ∷ 0 ∷ 128 ∷ 0 ∷ 170 ∷ [])) ∷ [])
     ∷ []) ≡ licensed ∷ []
 unfolding sn window modulus distance count_for data_pdu decoded read_data read_report keystream counter_block stream_blocks report_pdu
 repeat_flag_on_a_first_send_is_wrong = refl
 
-repeat_flag_on_a_first_send_is_right : breaks (a_header Nea0 0 (replicate 32 0)) (before_pdu_of_the_anchor_sent_by_the_host ++ 
+repeat_flag_on_a_first_send_is_right : breaks (a_header Nea0 0 (replicate 32 0)) (before_pdu_of_the_anchor_sent_by_the_host ++
     an_entry (event.Submit 1 Dl (170 ∷ [])) answer.Ok (line.Send (link M A Tun) (flight.Tun (Some 0) (52 ∷ 255 ∷ 0 ∷ 15 ∷ 0 ∷ 0 ∷ 1 ∷ 0 ∷ 0 ∷ 0 ∷ 0 ∷ 132 ∷ 2 ∷ 1 ∷ 0 ∷ 0 ∷ 0 ∷ 0 ∷ 0 ∷ 0 ∷ 128 ∷ 0 ∷ 170 ∷ [])) ∷ [])
     ∷ []) ≡ []
 unfolding sn window modulus distance count_for data_pdu decoded read_data read_report keystream counter_block stream_blocks report_pdu
@@ -1207,13 +1207,13 @@ before_report_at_a_waiting_anchor_counts_at_once =
     ∷ an_entry (event.Report T 1) answer.Ok (line.Send (link T A Air) (flight.Air 1 3 0 None (0 ∷ 0 ∷ 0 ∷ 0 ∷ 1 ∷ [])) ∷ [])
     ∷ []
 
-report_at_a_waiting_anchor_counts_at_once_is_wrong : breaks (a_header Nea0 0 (replicate 32 0)) (before_report_at_a_waiting_anchor_counts_at_once ++ 
+report_at_a_waiting_anchor_counts_at_once_is_wrong : breaks (a_header Nea0 0 (replicate 32 0)) (before_report_at_a_waiting_anchor_counts_at_once ++
     an_entry (event.Step (link T A Air) 0) answer.Ok (line.Send (link A M Feed) (flight.Told 1 3 1) ∷ line.Send (link A T Air) (flight.Ack 1 3 0) ∷ [])
     ∷ []) ≡ told ∷ licensed ∷ []
 unfolding sn window modulus distance count_for data_pdu decoded read_data read_report keystream counter_block stream_blocks report_pdu
 report_at_a_waiting_anchor_counts_at_once_is_wrong = refl
 
-report_at_a_waiting_anchor_counts_at_once_is_right : breaks (a_header Nea0 0 (replicate 32 0)) (before_report_at_a_waiting_anchor_counts_at_once ++ 
+report_at_a_waiting_anchor_counts_at_once_is_right : breaks (a_header Nea0 0 (replicate 32 0)) (before_report_at_a_waiting_anchor_counts_at_once ++
     an_entry (event.Step (link T A Air) 0) answer.Ok (line.Send (link A T Air) (flight.Ack 1 3 0) ∷ [])
     ∷ []) ≡ []
 unfolding sn window modulus distance count_for data_pdu decoded read_data read_report keystream counter_block stream_blocks report_pdu
@@ -1245,13 +1245,13 @@ before_report_at_a_waiting_anchor_never_counts =
     ∷ an_entry (event.Step (link M A Tun) 0) answer.Ok []
     ∷ []
 
-report_at_a_waiting_anchor_never_counts_is_wrong : breaks (a_header Nea0 0 (replicate 32 0)) (before_report_at_a_waiting_anchor_never_counts ++ 
+report_at_a_waiting_anchor_never_counts_is_wrong : breaks (a_header Nea0 0 (replicate 32 0)) (before_report_at_a_waiting_anchor_never_counts ++
     an_entry (event.Step (link M A Tun) 1) answer.Ok (line.Note (note.Own A 1 3) ∷ line.Send (link A M Ctl) (flight.Ctl (rec.Moved 3 1)) ∷ [])
     ∷ []) ≡ told ∷ []
 unfolding sn window modulus distance count_for data_pdu decoded read_data read_report keystream counter_block stream_blocks report_pdu
 report_at_a_waiting_anchor_never_counts_is_wrong = refl
 
-report_at_a_waiting_anchor_never_counts_is_right : breaks (a_header Nea0 0 (replicate 32 0)) (before_report_at_a_waiting_anchor_never_counts ++ 
+report_at_a_waiting_anchor_never_counts_is_right : breaks (a_header Nea0 0 (replicate 32 0)) (before_report_at_a_waiting_anchor_never_counts ++
     an_entry (event.Step (link M A Tun) 1) answer.Ok (line.Note (note.Own A 1 3) ∷ line.Send (link A M Ctl) (flight.Ctl (rec.Moved 3 1)) ∷ line.Send (link A M Feed) (flight.Told 1 3 1) ∷ [])
     ∷ []) ≡ []
 unfolding sn window modulus distance count_for data_pdu decoded read_data read_report keystream counter_block stream_blocks report_pdu
@@ -1275,14 +1275,14 @@ before_report_names_more_than_was_handed_up =
     ∷ an_entry (event.Submit 1 Ul (187 ∷ [])) answer.Ok (line.Send (link T A Air) (flight.Air 1 2 0 (Some 0) (128 ∷ 0 ∷ 187 ∷ [])) ∷ [])
     ∷ []
 
-report_names_more_than_was_handed_up_is_wrong : breaks (a_header Nea0 0 (replicate 32 0)) (before_report_names_more_than_was_handed_up ++ 
+report_names_more_than_was_handed_up_is_wrong : breaks (a_header Nea0 0 (replicate 32 0)) (before_report_names_more_than_was_handed_up ++
     an_entry (event.Report A 1) answer.Ok (line.Send (link A T Air) (flight.Air 1 2 0 None (0 ∷ 0 ∷ 0 ∷ 0 ∷ 1 ∷ [])) ∷ [])
     ∷ an_entry (event.Step (link A T Air) 0) answer.Ok (line.Note (note.Freed 1 Ul 1) ∷ line.Send (link T A Air) (flight.Ack 1 2 0) ∷ [])
     ∷ []) ≡ windowed ∷ true_report ∷ []
 unfolding sn window modulus distance count_for data_pdu decoded read_data read_report keystream counter_block stream_blocks report_pdu
 report_names_more_than_was_handed_up_is_wrong = refl
 
-report_names_more_than_was_handed_up_is_right : breaks (a_header Nea0 0 (replicate 32 0)) (before_report_names_more_than_was_handed_up ++ 
+report_names_more_than_was_handed_up_is_right : breaks (a_header Nea0 0 (replicate 32 0)) (before_report_names_more_than_was_handed_up ++
     an_entry (event.Report A 1) answer.Ok (line.Send (link A T Air) (flight.Air 1 2 0 None (0 ∷ 0 ∷ 0 ∷ 0 ∷ 0 ∷ [])) ∷ [])
     ∷ an_entry (event.Step (link A T Air) 0) answer.Ok (line.Send (link T A Air) (flight.Ack 1 2 0) ∷ [])
     ∷ []) ≡ []
@@ -1301,99 +1301,99 @@ before_report_of_an_old_generation_confirms =
     ∷ an_entry (event.RekeyMaster (replicate 32 17)) answer.Ok (line.Note (note.Own M 1 2) ∷ line.Send (link M T Ctl) (flight.Ctl (rec.Reconf (a_plan 2 None (Set 1 S12 0 (a_shape false Mcg false) 0 0 (a_key 1 Master) (Some M) ∷ [])) [])) ∷ [])
     ∷ []
 
-report_of_an_old_generation_confirms_is_wrong : breaks (a_header Nea0 0 (replicate 32 0)) (before_report_of_an_old_generation_confirms ++ 
+report_of_an_old_generation_confirms_is_wrong : breaks (a_header Nea0 0 (replicate 32 0)) (before_report_of_an_old_generation_confirms ++
     an_entry (event.Step (link T M Air) 1) answer.Ok (line.Note (note.Freed 1 Dl 1) ∷ [])
     ∷ []) ≡ told ∷ []
 unfolding sn window modulus distance count_for data_pdu decoded read_data read_report keystream counter_block stream_blocks report_pdu
 report_of_an_old_generation_confirms_is_wrong = refl
 
-report_of_an_old_generation_confirms_is_right : breaks (a_header Nea0 0 (replicate 32 0)) (before_report_of_an_old_generation_confirms ++ 
+report_of_an_old_generation_confirms_is_right : breaks (a_header Nea0 0 (replicate 32 0)) (before_report_of_an_old_generation_confirms ++
     an_entry (event.Step (link T M Air) 1) answer.Ok []
     ∷ []) ≡ []
 unfolding sn window modulus distance count_for data_pdu decoded read_data read_report keystream counter_block stream_blocks report_pdu
 report_of_an_old_generation_confirms_is_right = refl
 
-report_of_garbage_octets_is_wrong : breaks (a_header Nea0 0 (replicate 32 0)) (before_not_due_rootused ++ 
+report_of_garbage_octets_is_wrong : breaks (a_header Nea0 0 (replicate 32 0)) (before_not_due_rootused ++
     an_entry (event.Report T 1) answer.Ok (line.Send (link T M Air) (flight.Air 1 1 0 None (127 ∷ [])) ∷ [])
     ∷ []) ≡ true_report ∷ []
 unfolding sn window modulus distance count_for data_pdu decoded read_data read_report keystream counter_block stream_blocks report_pdu
 report_of_garbage_octets_is_wrong = refl
 
-report_of_garbage_octets_is_right : breaks (a_header Nea0 0 (replicate 32 0)) (before_not_due_rootused ++ 
+report_of_garbage_octets_is_right : breaks (a_header Nea0 0 (replicate 32 0)) (before_not_due_rootused ++
     an_entry (event.Report T 1) answer.Ok (line.Send (link T M Air) (flight.Air 1 1 0 None (0 ∷ 0 ∷ 0 ∷ 0 ∷ 0 ∷ [])) ∷ [])
     ∷ []) ≡ []
 unfolding sn window modulus distance count_for data_pdu decoded read_data read_report keystream counter_block stream_blocks report_pdu
 report_of_garbage_octets_is_right = refl
 
-report_on_a_leg_that_is_not_there_is_wrong : breaks (a_header Nea0 0 (replicate 32 0)) (before_not_due_rootused ++ 
+report_on_a_leg_that_is_not_there_is_wrong : breaks (a_header Nea0 0 (replicate 32 0)) (before_not_due_rootused ++
     an_entry (event.Report T 1) answer.Ok (line.Send (link T A Air) (flight.Air 1 1 0 None (0 ∷ 0 ∷ 0 ∷ 0 ∷ 0 ∷ [])) ∷ [])
     ∷ []) ≡ licensed ∷ []
 unfolding sn window modulus distance count_for data_pdu decoded read_data read_report keystream counter_block stream_blocks report_pdu
 report_on_a_leg_that_is_not_there_is_wrong = refl
 
-report_on_a_leg_that_is_not_there_is_right : breaks (a_header Nea0 0 (replicate 32 0)) (before_not_due_rootused ++ 
+report_on_a_leg_that_is_not_there_is_right : breaks (a_header Nea0 0 (replicate 32 0)) (before_not_due_rootused ++
     an_entry (event.Report T 1) answer.Ok (line.Send (link T M Air) (flight.Air 1 1 0 None (0 ∷ 0 ∷ 0 ∷ 0 ∷ 0 ∷ [])) ∷ [])
     ∷ []) ≡ []
 unfolding sn window modulus distance count_for data_pdu decoded read_data read_report keystream counter_block stream_blocks report_pdu
 report_on_a_leg_that_is_not_there_is_right = refl
 
-report_on_a_link_that_is_not_there_is_wrong : breaks (a_header Nea0 0 (replicate 32 0)) (before_not_due_rootused ++ 
+report_on_a_link_that_is_not_there_is_wrong : breaks (a_header Nea0 0 (replicate 32 0)) (before_not_due_rootused ++
     an_entry (event.Report M 1) answer.Ok (line.Send (link M M Air) (flight.Air 1 1 0 None (0 ∷ 0 ∷ 0 ∷ 0 ∷ 0 ∷ [])) ∷ [])
     ∷ []) ≡ on_link ∷ licensed ∷ []
 unfolding sn window modulus distance count_for data_pdu decoded read_data read_report keystream counter_block stream_blocks report_pdu
 report_on_a_link_that_is_not_there_is_wrong = refl
 
-report_on_a_link_that_is_not_there_is_right : breaks (a_header Nea0 0 (replicate 32 0)) (before_not_due_rootused ++ 
+report_on_a_link_that_is_not_there_is_right : breaks (a_header Nea0 0 (replicate 32 0)) (before_not_due_rootused ++
     an_entry (event.Report M 1) answer.Ok (line.Send (link M T Air) (flight.Air 1 1 0 None (0 ∷ 0 ∷ 0 ∷ 0 ∷ 0 ∷ [])) ∷ [])
     ∷ []) ≡ []
 unfolding sn window modulus distance count_for data_pdu decoded read_data read_report keystream counter_block stream_blocks report_pdu
 report_on_a_link_that_is_not_there_is_right = refl
 
-report_on_the_air_of_the_other_node_is_wrong : breaks (a_header Nea0 0 (replicate 32 0)) (before_pdu_of_the_anchor_sent_by_the_host ++ 
+report_on_the_air_of_the_other_node_is_wrong : breaks (a_header Nea0 0 (replicate 32 0)) (before_pdu_of_the_anchor_sent_by_the_host ++
     an_entry (event.Report T 1) answer.Ok (line.Send (link T B Air) (flight.Air 1 2 0 None (0 ∷ 0 ∷ 0 ∷ 0 ∷ 0 ∷ [])) ∷ [])
     ∷ []) ≡ licensed ∷ []
 unfolding sn window modulus distance count_for data_pdu decoded read_data read_report keystream counter_block stream_blocks report_pdu
 report_on_the_air_of_the_other_node_is_wrong = refl
 
-report_on_the_air_of_the_other_node_is_right : breaks (a_header Nea0 0 (replicate 32 0)) (before_pdu_of_the_anchor_sent_by_the_host ++ 
+report_on_the_air_of_the_other_node_is_right : breaks (a_header Nea0 0 (replicate 32 0)) (before_pdu_of_the_anchor_sent_by_the_host ++
     an_entry (event.Report T 1) answer.Ok (line.Send (link T A Air) (flight.Air 1 2 0 None (0 ∷ 0 ∷ 0 ∷ 0 ∷ 0 ∷ [])) ∷ [])
     ∷ []) ≡ []
 unfolding sn window modulus distance count_for data_pdu decoded read_data read_report keystream counter_block stream_blocks report_pdu
 report_on_the_air_of_the_other_node_is_right = refl
 
-report_pdu_without_a_report_event_is_wrong : breaks (a_header Nea0 0 (replicate 32 0)) (before_not_due_rootused ++ 
+report_pdu_without_a_report_event_is_wrong : breaks (a_header Nea0 0 (replicate 32 0)) (before_not_due_rootused ++
     an_entry (event.Submit 1 Dl (104 ∷ 105 ∷ [])) answer.Ok (line.Send (link M T Air) (flight.Air 1 1 0 (Some 0) (128 ∷ 0 ∷ 104 ∷ 105 ∷ [])) ∷ line.Send (link M T Air) (flight.Air 1 1 1 None (0 ∷ 0 ∷ 0 ∷ 0 ∷ 0 ∷ [])) ∷ [])
     ∷ []) ≡ licensed ∷ []
 unfolding sn window modulus distance count_for data_pdu decoded read_data read_report keystream counter_block stream_blocks report_pdu
 report_pdu_without_a_report_event_is_wrong = refl
 
-report_pdu_without_a_report_event_is_right : breaks (a_header Nea0 0 (replicate 32 0)) (before_not_due_rootused ++ 
+report_pdu_without_a_report_event_is_right : breaks (a_header Nea0 0 (replicate 32 0)) (before_not_due_rootused ++
     an_entry (event.Submit 1 Dl (104 ∷ 105 ∷ [])) answer.Ok (line.Send (link M T Air) (flight.Air 1 1 0 (Some 0) (128 ∷ 0 ∷ 104 ∷ 105 ∷ [])) ∷ [])
     ∷ []) ≡ []
 unfolding sn window modulus distance count_for data_pdu decoded read_data read_report keystream counter_block stream_blocks report_pdu
 report_pdu_without_a_report_event_is_right = refl
 
-report_that_names_what_did_not_come_is_wrong : breaks (a_header Nea0 0 (replicate 32 0)) (before_not_due_notfirst_on_air ++ 
+report_that_names_what_did_not_come_is_wrong : breaks (a_header Nea0 0 (replicate 32 0)) (before_not_due_notfirst_on_air ++
     an_entry (event.Report T 1) answer.Ok (line.Send (link T M Air) (flight.Air 1 1 0 None (0 ∷ 255 ∷ 255 ∷ 255 ∷ 255 ∷ [])) ∷ [])
     ∷ an_entry (event.Step (link T M Air) 0) answer.Ok (line.Note (note.Freed 1 Dl 2) ∷ line.Send (link M T Air) (flight.Ack 1 1 0) ∷ [])
     ∷ []) ≡ windowed ∷ true_report ∷ []
 unfolding sn window modulus distance count_for data_pdu decoded read_data read_report keystream counter_block stream_blocks report_pdu
 report_that_names_what_did_not_come_is_wrong = refl
 
-report_that_names_what_did_not_come_is_right : breaks (a_header Nea0 0 (replicate 32 0)) (before_not_due_notfirst_on_air ++ 
+report_that_names_what_did_not_come_is_right : breaks (a_header Nea0 0 (replicate 32 0)) (before_not_due_notfirst_on_air ++
     an_entry (event.Report T 1) answer.Ok (line.Send (link T M Air) (flight.Air 1 1 0 None (0 ∷ 0 ∷ 0 ∷ 0 ∷ 0 ∷ [])) ∷ [])
     ∷ an_entry (event.Step (link T M Air) 0) answer.Ok (line.Send (link M T Air) (flight.Ack 1 1 0) ∷ [])
     ∷ []) ≡ []
 unfolding sn window modulus distance count_for data_pdu decoded read_data read_report keystream counter_block stream_blocks report_pdu
 report_that_names_what_did_not_come_is_right = refl
 
-report_that_sends_nothing_is_wrong : breaks (a_header Nea0 0 (replicate 32 0)) (before_not_due_rootused ++ 
+report_that_sends_nothing_is_wrong : breaks (a_header Nea0 0 (replicate 32 0)) (before_not_due_rootused ++
     an_entry (event.Report M 1) answer.Ok []
     ∷ []) ≡ come ∷ []
 unfolding sn window modulus distance count_for data_pdu decoded read_data read_report keystream counter_block stream_blocks report_pdu
 report_that_sends_nothing_is_wrong = refl
 
-report_that_sends_nothing_is_right : breaks (a_header Nea0 0 (replicate 32 0)) (before_not_due_rootused ++ 
+report_that_sends_nothing_is_right : breaks (a_header Nea0 0 (replicate 32 0)) (before_not_due_rootused ++
     an_entry (event.Report M 1) answer.Ok (line.Send (link M T Air) (flight.Air 1 1 0 None (0 ∷ 0 ∷ 0 ∷ 0 ∷ 0 ∷ [])) ∷ [])
     ∷ []) ≡ []
 unfolding sn window modulus distance count_for data_pdu decoded read_data read_report keystream counter_block stream_blocks report_pdu
@@ -1409,51 +1409,51 @@ before_report_under_generation_999 =
     ∷ an_entry (event.Step (link T M Air) 0) answer.Ok (line.Note (note.Up M 1 Ul 0 (170 ∷ [])) ∷ line.Send (link M T Air) (flight.Ack 1 1 0) ∷ [])
     ∷ []
 
-report_under_generation_999_is_wrong : breaks (a_header Nea0 0 (replicate 32 0)) (before_report_under_generation_999 ++ 
+report_under_generation_999_is_wrong : breaks (a_header Nea0 0 (replicate 32 0)) (before_report_under_generation_999 ++
     an_entry (event.Report M 1) answer.Ok (line.Send (link M T Air) (flight.Air 1 999 0 None (0 ∷ 0 ∷ 0 ∷ 0 ∷ 1 ∷ [])) ∷ [])
     ∷ []) ≡ true_report ∷ licensed ∷ []
 unfolding sn window modulus distance count_for data_pdu decoded read_data read_report keystream counter_block stream_blocks report_pdu
 report_under_generation_999_is_wrong = refl
 
-report_under_generation_999_is_right : breaks (a_header Nea0 0 (replicate 32 0)) (before_report_under_generation_999 ++ 
+report_under_generation_999_is_right : breaks (a_header Nea0 0 (replicate 32 0)) (before_report_under_generation_999 ++
     an_entry (event.Report M 1) answer.Ok (line.Send (link M T Air) (flight.Air 1 1 0 None (0 ∷ 0 ∷ 0 ∷ 0 ∷ 1 ∷ [])) ∷ [])
     ∷ []) ≡ []
 unfolding sn window modulus distance count_for data_pdu decoded read_data read_report keystream counter_block stream_blocks report_pdu
 report_under_generation_999_is_right = refl
 
-report_under_generation_999_confirms_is_wrong : breaks (a_header Nea0 0 (replicate 32 0)) (before_report_under_generation_999 ++ 
+report_under_generation_999_confirms_is_wrong : breaks (a_header Nea0 0 (replicate 32 0)) (before_report_under_generation_999 ++
     an_entry (event.Report M 1) answer.Ok (line.Send (link M T Air) (flight.Air 1 999 0 None (0 ∷ 0 ∷ 0 ∷ 0 ∷ 1 ∷ [])) ∷ [])
     ∷ an_entry (event.Step (link M T Air) 1) answer.Ok (line.Note (note.Freed 1 Ul 1) ∷ line.Send (link T M Air) (flight.Ack 1 999 0) ∷ [])
     ∷ []) ≡ told ∷ true_report ∷ licensed ∷ []
 unfolding sn window modulus distance count_for data_pdu decoded read_data read_report keystream counter_block stream_blocks report_pdu
 report_under_generation_999_confirms_is_wrong = refl
 
-report_under_generation_999_confirms_is_right : breaks (a_header Nea0 0 (replicate 32 0)) (before_report_under_generation_999 ++ 
+report_under_generation_999_confirms_is_right : breaks (a_header Nea0 0 (replicate 32 0)) (before_report_under_generation_999 ++
     an_entry (event.Report M 1) answer.Ok (line.Send (link M T Air) (flight.Air 1 1 0 None (0 ∷ 0 ∷ 0 ∷ 0 ∷ 1 ∷ [])) ∷ [])
     ∷ an_entry (event.Step (link M T Air) 1) answer.Ok (line.Note (note.Freed 1 Ul 1) ∷ line.Send (link T M Air) (flight.Ack 1 1 0) ∷ [])
     ∷ []) ≡ []
 unfolding sn window modulus distance count_for data_pdu decoded read_data read_report keystream counter_block stream_blocks report_pdu
 report_under_generation_999_confirms_is_right = refl
 
-report_with_a_bitmap_that_is_not_needed_is_wrong : breaks (a_header Nea0 0 (replicate 32 0)) (before_not_due_rootused ++ 
+report_with_a_bitmap_that_is_not_needed_is_wrong : breaks (a_header Nea0 0 (replicate 32 0)) (before_not_due_rootused ++
     an_entry (event.Report M 1) answer.Ok (line.Send (link M T Air) (flight.Air 1 1 0 None (0 ∷ 0 ∷ 0 ∷ 0 ∷ 0 ∷ 0 ∷ [])) ∷ [])
     ∷ []) ≡ true_report ∷ []
 unfolding sn window modulus distance count_for data_pdu decoded read_data read_report keystream counter_block stream_blocks report_pdu
 report_with_a_bitmap_that_is_not_needed_is_wrong = refl
 
-report_with_a_bitmap_that_is_not_needed_is_right : breaks (a_header Nea0 0 (replicate 32 0)) (before_not_due_rootused ++ 
+report_with_a_bitmap_that_is_not_needed_is_right : breaks (a_header Nea0 0 (replicate 32 0)) (before_not_due_rootused ++
     an_entry (event.Report M 1) answer.Ok (line.Send (link M T Air) (flight.Air 1 1 0 None (0 ∷ 0 ∷ 0 ∷ 0 ∷ 0 ∷ [])) ∷ [])
     ∷ []) ≡ []
 unfolding sn window modulus distance count_for data_pdu decoded read_data read_report keystream counter_block stream_blocks report_pdu
 report_with_a_bitmap_that_is_not_needed_is_right = refl
 
-resend_in_an_event_that_is_no_recovery_is_wrong : breaks (a_header Nea0 0 (replicate 32 0)) (before_num_0_for_every_pdu ++ 
+resend_in_an_event_that_is_no_recovery_is_wrong : breaks (a_header Nea0 0 (replicate 32 0)) (before_num_0_for_every_pdu ++
     an_entry (event.Report M 1) answer.Ok (line.Send (link M T Air) (flight.Air 1 1 1 None (0 ∷ 0 ∷ 0 ∷ 0 ∷ 0 ∷ [])) ∷ line.Send (link M T Air) (flight.Air 1 1 2 (Some 0) (128 ∷ 0 ∷ 104 ∷ 105 ∷ [])) ∷ [])
     ∷ []) ≡ licensed ∷ []
 unfolding sn window modulus distance count_for data_pdu decoded read_data read_report keystream counter_block stream_blocks report_pdu
 resend_in_an_event_that_is_no_recovery_is_wrong = refl
 
-resend_in_an_event_that_is_no_recovery_is_right : breaks (a_header Nea0 0 (replicate 32 0)) (before_num_0_for_every_pdu ++ 
+resend_in_an_event_that_is_no_recovery_is_right : breaks (a_header Nea0 0 (replicate 32 0)) (before_num_0_for_every_pdu ++
     an_entry (event.Report M 1) answer.Ok (line.Send (link M T Air) (flight.Air 1 1 1 None (0 ∷ 0 ∷ 0 ∷ 0 ∷ 0 ∷ [])) ∷ [])
     ∷ []) ≡ []
 unfolding sn window modulus distance count_for data_pdu decoded read_data read_report keystream counter_block stream_blocks report_pdu
@@ -1480,37 +1480,37 @@ before_resend_of_a_number_that_is_not_listed =
     ∷ an_entry (event.Step (link T A Air) 0) answer.Ok (line.Send (link A M Tun) (flight.Tun (Some 0) (52 ∷ 255 ∷ 0 ∷ 12 ∷ 0 ∷ 0 ∷ 1 ∷ 0 ∷ 0 ∷ 0 ∷ 0 ∷ 132 ∷ 2 ∷ 17 ∷ 0 ∷ 0 ∷ 0 ∷ 0 ∷ 0 ∷ 0 ∷ [])) ∷ [])
     ∷ []
 
-resend_of_a_number_that_is_not_listed_is_wrong : breaks (a_header Nea0 0 (replicate 32 0)) (before_resend_of_a_number_that_is_not_listed ++ 
+resend_of_a_number_that_is_not_listed_is_wrong : breaks (a_header Nea0 0 (replicate 32 0)) (before_resend_of_a_number_that_is_not_listed ++
     an_entry (event.Step (link A M Tun) 0) answer.Ok (line.Note (note.Freed 1 Dl 1) ∷ line.Send (link M A Tun) (flight.Tun (Some 1) (52 ∷ 255 ∷ 0 ∷ 15 ∷ 0 ∷ 0 ∷ 1 ∷ 0 ∷ 0 ∷ 0 ∷ 0 ∷ 132 ∷ 2 ∷ 3 ∷ 0 ∷ 0 ∷ 2 ∷ 0 ∷ 0 ∷ 0 ∷ 128 ∷ 1 ∷ 187 ∷ [])) ∷ [])
     ∷ []) ≡ licensed ∷ []
 unfolding sn window modulus distance count_for data_pdu decoded read_data read_report keystream counter_block stream_blocks report_pdu
 resend_of_a_number_that_is_not_listed_is_wrong = refl
 
-resend_of_a_number_that_is_not_listed_is_right : breaks (a_header Nea0 0 (replicate 32 0)) (before_resend_of_a_number_that_is_not_listed ++ 
+resend_of_a_number_that_is_not_listed_is_right : breaks (a_header Nea0 0 (replicate 32 0)) (before_resend_of_a_number_that_is_not_listed ++
     an_entry (event.Step (link A M Tun) 0) answer.Ok (line.Note (note.Freed 1 Dl 1) ∷ [])
     ∷ []) ≡ []
 unfolding sn window modulus distance count_for data_pdu decoded read_data read_report keystream counter_block stream_blocks report_pdu
 resend_of_a_number_that_is_not_listed_is_right = refl
 
-resend_on_a_control_link_is_wrong : breaks (a_header Nea0 0 (replicate 32 0)) (before_recover_that_sends_nothing_again ++ 
+resend_on_a_control_link_is_wrong : breaks (a_header Nea0 0 (replicate 32 0)) (before_recover_that_sends_nothing_again ++
     an_entry (event.Recover 1) answer.Ok (line.Send (link M T Ctl) (flight.Ctl (rec.Recov 1)) ∷ line.Send (link M T Ctl) (flight.Air 1 1 1 (Some 0) (128 ∷ 0 ∷ 104 ∷ 105 ∷ [])) ∷ [])
     ∷ []) ≡ on_link ∷ numbered ∷ licensed ∷ ordered ∷ []
 unfolding sn window modulus distance count_for data_pdu decoded read_data read_report keystream counter_block stream_blocks report_pdu
 resend_on_a_control_link_is_wrong = refl
 
-resend_on_a_control_link_is_right : breaks (a_header Nea0 0 (replicate 32 0)) (before_recover_that_sends_nothing_again ++ 
+resend_on_a_control_link_is_right : breaks (a_header Nea0 0 (replicate 32 0)) (before_recover_that_sends_nothing_again ++
     an_entry (event.Recover 1) answer.Ok (line.Send (link M T Ctl) (flight.Ctl (rec.Recov 1)) ∷ line.Send (link M T Air) (flight.Air 1 1 1 (Some 0) (128 ∷ 0 ∷ 104 ∷ 105 ∷ [])) ∷ [])
     ∷ []) ≡ []
 unfolding sn window modulus distance count_for data_pdu decoded read_data read_report keystream counter_block stream_blocks report_pdu
 resend_on_a_control_link_is_right = refl
 
-resend_on_a_tunnel_link_is_wrong : breaks (a_header Nea0 0 (replicate 32 0)) (before_recover_that_sends_nothing_again ++ 
+resend_on_a_tunnel_link_is_wrong : breaks (a_header Nea0 0 (replicate 32 0)) (before_recover_that_sends_nothing_again ++
     an_entry (event.Recover 1) answer.Ok (line.Send (link M T Ctl) (flight.Ctl (rec.Recov 1)) ∷ line.Send (link A B Tun) (flight.Air 1 1 1 (Some 0) (128 ∷ 0 ∷ 104 ∷ 105 ∷ [])) ∷ [])
     ∷ []) ≡ on_link ∷ protected ∷ numbered ∷ licensed ∷ come ∷ []
 unfolding sn window modulus distance count_for data_pdu decoded read_data read_report keystream counter_block stream_blocks report_pdu
 resend_on_a_tunnel_link_is_wrong = refl
 
-resend_on_a_tunnel_link_is_right : breaks (a_header Nea0 0 (replicate 32 0)) (before_recover_that_sends_nothing_again ++ 
+resend_on_a_tunnel_link_is_right : breaks (a_header Nea0 0 (replicate 32 0)) (before_recover_that_sends_nothing_again ++
     an_entry (event.Recover 1) answer.Ok (line.Send (link M T Ctl) (flight.Ctl (rec.Recov 1)) ∷ line.Send (link M T Air) (flight.Air 1 1 1 (Some 0) (128 ∷ 0 ∷ 104 ∷ 105 ∷ [])) ∷ [])
     ∷ []) ≡ []
 unfolding sn window modulus distance count_for data_pdu decoded read_data read_report keystream counter_block stream_blocks report_pdu
@@ -1702,13 +1702,13 @@ before_root_of_a_rejected_rekey_m_becomes_current =
     ∷ an_entry (event.Step (link A M Ctl) 0) answer.Ok (line.Note note.Rejected ∷ [])
     ∷ []
 
-root_of_a_rejected_rekey_m_becomes_current_is_wrong : breaks (a_header Nea0 0 (replicate 32 0)) (before_root_of_a_rejected_rekey_m_becomes_current ++ 
+root_of_a_rejected_rekey_m_becomes_current_is_wrong : breaks (a_header Nea0 0 (replicate 32 0)) (before_root_of_a_rejected_rekey_m_becomes_current ++
     an_entry (event.Bearer 1 S12 0 (a_shape false Mcg false) 0 0) answer.Ok (line.Note (note.Own M 1 3) ∷ line.Send (link M T Ctl) (flight.Ctl (rec.Reconf (a_plan 3 (Some A) (Set 1 S12 0 (a_shape false Mcg false) 0 0 (a_key 1 Master) None ∷ [])) [])) ∷ [])
     ∷ []) ≡ planned ∷ []
 unfolding sn window modulus distance count_for data_pdu decoded read_data read_report keystream counter_block stream_blocks report_pdu
 root_of_a_rejected_rekey_m_becomes_current_is_wrong = refl
 
-root_of_a_rejected_rekey_m_becomes_current_is_right : breaks (a_header Nea0 0 (replicate 32 0)) (before_root_of_a_rejected_rekey_m_becomes_current ++ 
+root_of_a_rejected_rekey_m_becomes_current_is_right : breaks (a_header Nea0 0 (replicate 32 0)) (before_root_of_a_rejected_rekey_m_becomes_current ++
     an_entry (event.Bearer 1 S12 0 (a_shape false Mcg false) 0 0) answer.Ok (line.Note (note.Own M 1 3) ∷ line.Send (link M T Ctl) (flight.Ctl (rec.Reconf (a_plan 3 (Some A) (Set 1 S12 0 (a_shape false Mcg false) 0 0 (a_key 0 Master) None ∷ [])) [])) ∷ [])
     ∷ []) ≡ []
 unfolding sn window modulus distance count_for data_pdu decoded read_data read_report keystream counter_block stream_blocks report_pdu

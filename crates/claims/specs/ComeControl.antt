@@ -92,7 +92,7 @@ is_leave_record g _ = false
 abbrev pub leaver_is_told : List Line → Command → ℕ → Bool
 leaver_is_told xs c g =
     implies (sends_record (is_reconf_of g) xs && (is_change_of_second c.event || (is_some c.asker && is_release c.event)))
-        (is_none_or (λ x. sends_record_to x (is_leave_record g) xs) (leaving c))
+    (is_none_or (λ x. sends_record_to x (is_leave_record g) xs) (leaving c))
 
 -- commands go on
 abbrev pub commands_go_on : Past → Past → List Line → Bool
@@ -126,7 +126,7 @@ is_scgf _ = false
 abbrev pub failure_is_passed : Past → List Line → ℕ × ℕ → Bool
 failure_is_passed q xs (id, g) =
     implies (is_carried_in g (bearer_of q id g))
-        (is_none_or (λ s. is_same_node (anchor_in s) M || sends_record_to (anchor_in s) (is_scgn_of id g) xs) (setting q id g))
+    (is_none_or (λ s. is_same_node (anchor_in s) M || sends_record_to (anchor_in s) (is_scgn_of id g) xs) (setting q id g))
 
 -- what a record brings about at once
 abbrev pub record_brings : Past → List Line → Rec → Bool
@@ -171,7 +171,7 @@ is_configured q g (Unset id) = list_all (λ b. not (b.id == id) || is_none b.ter
 abbrev pub item_is_carried : Past → List Line → Node → ℕ → Item → Bool
 item_is_carried q xs x g (Set id n first shape threshold policy key old) =
     is_none_or (λ s. implies (is_same_node x (anchor_in s) && not (is_moved s)) (is_active_since q id g) && implies (moves_from x s) (list_any (gives_now x id g) xs))
-        (setting q id g)
+    (setting q id g)
 item_is_carried q xs x g (Unset id) = true
 
 -- all items of a plan

@@ -161,7 +161,7 @@ data_reason p l u =
     let d = direction_of p l u in
     is_passed_once p l u
     || (is_origin l d (setting p u.id u.g) && has_right_mark p l u && is_due_pdu p l u
-        && is_some_and (λ b. is_unconfirmed d u.tag b && is_on_leg p l u b) (bearer_of p u.id u.g))
+    && is_some_and (λ b. is_unconfirmed d u.tag b && is_on_leg p l u b) (bearer_of p u.id u.g))
 
 -- ---- why a control PDU is sent
 

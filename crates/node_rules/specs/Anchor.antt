@@ -50,7 +50,7 @@ sending sends = record { adopted = false; ups = []; low = None; sends = sends }
 
 -- a tunnel in which nothing was sent
 abbrev pub new_tunnel : SnLen → Outgoing
-new_tunnel n = record { n = n; sent = []; waiting = []; unasked = []; confirmed = [] }
+new_tunnel n = record { n = n; next = 0; waiting = []; unasked = []; confirmed = [] }
 
 -- the anchor of a new bearer: active and closed
 abbrev pub fresh : Setup → AnchorState
