@@ -20,6 +20,7 @@ use Rattle.transcript.specs.Content.{direction_from}
 use Rattle.split_leg.specs.Legs.{settled_on_both}
 use Rattle.node_rules.specs.Setup.{Setup}
 
+-- both sides of a PDCP entity, under what is set up for its bearer in the present generation
 pub record Entity : Type 0 where
   pub setup : Setup
   pub tx : Sender

@@ -5,6 +5,7 @@ use Rattle.dc_base.specs.declared.nodes.Node.{Node}
 use Rattle.dc_base.specs.declared.numbers.SnLen.{SnLen}
 use Rattle.nr_u.specs.Tunnel.Incoming.{Incoming}
 
+-- a leg's host in one generation of the bearer
 pub record Host : Type 0 where
   pub node : Node
   pub anchor : Node  -- the node at the other end of the tunnel

@@ -97,6 +97,7 @@ abbrev pub command_by : MasterProc → Event → Option ℕ → MasterActs
 command_by m e None = begins_if m false (draft m.table e)
 command_by m e (Some id) = recovers_row m id (row m.table id)
 
+-- a command that is not refused begins
 abbrev pub commands : MasterProc → Event → MasterActs
 commands m e = command_by m e (recovered_by e)
 

@@ -15,6 +15,7 @@ use Rattle.split_leg.specs.Legs.{LegsState, LegState, leg_at, with_leg}
 use Rattle.split_leg.specs.Routes.{has_leg}
 use Rattle.dc_base.specs.Nodes.{is_same_node}
 
+-- a bearer in one generation at a node
 pub record Setup : Type 0 where
   pub node : Node  -- where it is set up
   pub sec : Option Node  -- the secondary of the plan

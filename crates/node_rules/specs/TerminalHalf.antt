@@ -24,6 +24,7 @@ use Rattle.node_rules.specs.Entity.{Entity, new_entity, renewed, risen_low, take
 use Rattle.node_rules.specs.Sending.{OnLeg, send_counts, send_kept, send_report}
 use Rattle.node_rules.specs.Setup.{Setup, cell_of, has_cell, has_failed, has_leg_at, is_of, node_of, with_failed_scg}
 
+-- the terminal's half of a bearer is its PDCP entity
 abbrev pub TerminalHalf : Type 0
 TerminalHalf = Entity
 
