@@ -146,12 +146,10 @@ fn texts_are_written(rt: HostRuntime) -> Result<(), Fail> {
     write_decimal(&mut text, 0)?;
     write_decimal(&mut text, u64::MAX)?;
     write_hex(&mut text, &[0xa0; 65])?;
-    assert_eq!(rt; text.len(), 3 + 21 + 130);
-    assert_eq!(rt;
-        &text.as_slice()[..28],
-        b"at 018446744073709551615a0a0".as_slice()
-    );
-    assert_eq!(rt; &text.as_slice()[150..], b"a0a0".as_slice());
+    let written = text.as_slice();
+    assert_eq!(rt; written.len(), 154);
+    assert!(rt; written.starts_with(b"at 018446744073709551615a0a0"));
+    assert!(rt; written.ends_with(b"a0a0"));
     Ok(())
 }
 
