@@ -1,5 +1,6 @@
 use super::*;
 use dc_base::{Seq, SnLen, Tag};
+use std::alloc::Global;
 use std::test::Fail;
 
 /// Numbers 0 to 0 lost, highest 1.
@@ -98,7 +99,60 @@ fn faults(rt: HostRuntime) {
     }
 }
 
+/// A PDU that comes: its number, its sequence number, whether it was sent again, and its tag.
+type Coming = (u32, Option<u32>, bool, Tag);
+
+/// A PDU of number and COUNT `k` that comes, sent for the first time.
+fn first(k: u32) -> Coming {
+    (k, Some(k), false, Tag::count(k))
+}
+
+/// A PDU comes at a host, whose number and sequence number have 12 bits.
 #[tactic(auto, using(crate::proofs::Numbers::fits_each))]
+fn comes(host: &mut Inbound, pdu: Coming) -> Option<bool> {
+    let (number, sn, repeat, tag) = pdu;
+    if number >= 4096 {
+        return None;
+    }
+    match sn {
+        None => host.came(number, None, repeat, tag).ok(),
+        Some(sn) if sn < 4096 => host.came(number, Some(sn), repeat, tag).ok(),
+        Some(_) => None,
+    }
+}
+
+/// The octets of the status of a host, and its tag.
+fn status_of(alloc: Global, host: &Inbound) -> Option<(Vec<u8>, Tag)> {
+    let (f, tag) = host.status().ok()?;
+    let octets = encode(alloc, &f).ok()?;
+    Some((octets.into_vec(), tag))
+}
+
+/// A tunnel in which three PDUs with these COUNTs and repeat flags were sent.
+fn sent(alloc: Global, n: SnLen, pdus: [(Option<u32>, bool); 3]) -> Option<Outbound> {
+    let mut tunnel = Outbound::new(alloc, n);
+    let [first, second, third] = pdus;
+    let a = tunnel.sent(first.0, first.1).ok()?;
+    let b = tunnel.sent(second.0, second.1).ok()?;
+    let c = tunnel.sent(third.0, third.1).ok()?;
+    if (a, b, c) != (0, 1, 2) {
+        return None;
+    }
+    Some(tunnel)
+}
+
+/// What the octets of a status confirm and ask for again.
+fn says(
+    alloc: Global,
+    tunnel: &mut Outbound,
+    low: u32,
+    octets: &[u8],
+) -> Option<(Vec<u32>, Vec<u32>)> {
+    let f = decode(alloc, octets).ok()?;
+    let verdict = tunnel.on_status(low, &f).ok()?;
+    Some((verdict.confirmed.into_vec(), verdict.again.into_vec()))
+}
+
 #[test]
 fn the_second_of_three_is_lost(rt: HostRuntime) {
     let early: &[u32] = &[0];
@@ -106,41 +160,42 @@ fn the_second_of_three_is_lost(rt: HostRuntime) {
     // whether the third was acked; the tag; the octets; what is confirmed
     let rows = [(false, 0, LOST_1_NAMES_0, early), (true, 2, LOST_1, late)];
     for (acked, tag, octets, confirmed) in rows {
-        let mut sent = Outbound::new(rt.alloc(), SnLen::S12);
-        assert_eq!(rt; sent.sent(Some(0), false), Ok(0));
-        assert_eq!(rt; sent.sent(Some(1), false), Ok(1));
-        assert_eq!(rt; sent.sent(Some(2), false), Ok(2));
-
         let mut host = Inbound::new(rt.alloc(), SnLen::S12);
-        assert_eq!(rt; host.came(0, Some(0), false, Tag::count(0)), Ok(true));
-        assert_eq!(rt; host.came(2, Some(2), false, Tag::count(2)), Ok(true));
-        assert_eq!(rt; host.came(2, Some(2), false, Tag::count(2)), Ok(false));
+        assert_eq!(rt; comes(&mut host, first(0)), Some(true));
+        assert_eq!(rt; comes(&mut host, first(2)), Some(true));
+        assert_eq!(rt; comes(&mut host, first(2)), Some(false));
         host.acked(0);
         host.acked(1);
         if acked {
             host.acked(2);
         }
-        let (f, t) = host.status().expect(&rt, "memory");
+        let (written, t) = status_of(rt.alloc(), &host).expect(&rt, "memory");
         assert_eq!(rt; t, Tag::count(tag));
-        let written = encode(rt.alloc(), &f).expect(&rt, "memory");
         assert_eq!(rt; written.as_slice(), octets.as_slice());
 
-        let verdict = sent.on_status(0, &f).expect(&rt, "memory");
-        assert_eq!(rt; verdict.confirmed.as_slice(), confirmed);
-        assert_eq!(rt; verdict.again.as_slice(), [1].as_slice());
-        let verdict = sent.on_status(0, &f).expect(&rt, "memory");
-        assert_eq!(rt; (verdict.confirmed.len(), verdict.again.len()), (0, 0));
+        let pdus = [(Some(0), false), (Some(1), false), (Some(2), false)];
+        let mut tunnel = sent(rt.alloc(), SnLen::S12, pdus).expect(&rt, "memory");
+        let (now, again) = says(rt.alloc(), &mut tunnel, 0, &octets).expect(&rt, "memory");
+        assert_eq!(rt; now.as_slice(), confirmed);
+        assert_eq!(rt; again.as_slice(), [1].as_slice());
+        let (now, again) = says(rt.alloc(), &mut tunnel, 0, &octets).expect(&rt, "memory");
+        assert_eq!(rt; (now.len(), again.len()), (0, 0));
     }
 }
 
 /// Number 0 is a control PDU, 1 a data PDU that is sent again, 2 one that is sent for the first time.
-#[tactic(auto, using(crate::proofs::Numbers::fits_each))]
 #[test]
-fn control_pdus_and_repeats(rt: HostRuntime) {
+fn the_status_of_control_pdus_and_repeats(rt: HostRuntime) {
     let mut host = Inbound::new(rt.alloc(), SnLen::S18);
-    assert_eq!(rt; host.came(0, None, false, Tag::none()), Ok(true));
-    assert_eq!(rt; host.came(1, Some(5), true, Tag::count(5)), Ok(true));
-    assert_eq!(rt; host.came(2, Some(7), false, Tag::count(7)), Ok(true));
+    assert_eq!(rt; comes(&mut host, (0, None, false, Tag::none())), Some(true));
+    assert_eq!(rt;
+        comes(&mut host, (1, Some(5), true, Tag::count(5))),
+        Some(true)
+    );
+    assert_eq!(rt;
+        comes(&mut host, (2, Some(7), false, Tag::count(7))),
+        Some(true)
+    );
     // the number that is acked; the tag; the octets
     let rows: [(u32, Tag, &[u8]); 3] = [
         (0, Tag::none(), &[0x10, 0]),
@@ -149,74 +204,64 @@ fn control_pdus_and_repeats(rt: HostRuntime) {
     ];
     for (number, tag, octets) in rows {
         host.acked(number);
-        let (f, t) = host.status().expect(&rt, "memory");
+        let (written, t) = status_of(rt.alloc(), &host).expect(&rt, "memory");
         assert_eq!(rt; t, tag);
-        let written = encode(rt.alloc(), &f).expect(&rt, "memory");
         assert_eq!(rt; written.as_slice(), octets);
     }
+}
 
-    let mut sent = Outbound::new(rt.alloc(), SnLen::S18);
-    assert_eq!(rt; sent.sent(None, false), Ok(0));
-    assert_eq!(rt; sent.sent(Some(5), true), Ok(1));
-    assert_eq!(rt; sent.sent(Some(7), false), Ok(2));
-    // the reference; the octets; what is confirmed and asked for again: no control PDU, nothing below the
-    // reference, no repeat by a status, nothing twice
+/// No control PDU is asked for, nothing below the reference, nothing twice; a status confirms no repeat.
+#[test]
+fn what_statuses_say_of_control_pdus_and_repeats(rt: HostRuntime) {
+    let pdus = [(None, false), (Some(5), true), (Some(7), false)];
+    let mut tunnel = sent(rt.alloc(), SnLen::S18, pdus).expect(&rt, "memory");
+    let lost_0_to_1: &[u8] = &[0x10, 1, 0, 0, 0, 0, 0, 1];
+    let names_7: &[u8] = &[0x11, 0, 0, 0, 7];
+    // the reference; the octets; what is confirmed and asked for again
     let rows: [(u32, &[u8], &[u32], &[u32]); 4] = [
-        (6, &[0x10, 1, 0, 0, 0, 0, 0, 1], &[], &[]),
-        (5, &[0x10, 1, 0, 0, 0, 0, 0, 1], &[], &[5]),
-        (5, &[0x10, 1, 0, 0, 0, 0, 0, 1], &[], &[]),
-        (5, &[0x11, 0, 0, 0, 7], &[7], &[]),
+        (6, lost_0_to_1, &[], &[]),
+        (5, lost_0_to_1, &[], &[5]),
+        (5, lost_0_to_1, &[], &[]),
+        (5, names_7, &[7], &[]),
     ];
-    for (low, octets, confirmed, again) in rows {
-        let f = decode(rt.alloc(), octets).expect(&rt, "a frame");
-        let verdict = sent.on_status(low, &f).expect(&rt, "memory");
-        assert_eq!(rt; verdict.confirmed.as_slice(), confirmed);
-        assert_eq!(rt; verdict.again.as_slice(), again);
+    for (low, octets, confirmed, asked) in rows {
+        let (now, again) = says(rt.alloc(), &mut tunnel, low, octets).expect(&rt, "memory");
+        assert_eq!(rt; now.as_slice(), confirmed);
+        assert_eq!(rt; again.as_slice(), asked);
     }
 }
 
 /// Of the numbers to 337 every other came and was acked.
-#[tactic(auto, using(crate::proofs::Numbers::fits_each))]
 #[test]
 fn more_gaps_than_a_status_lists(rt: HostRuntime) {
     let mut host = Inbound::new(rt.alloc(), SnLen::S12);
     for k in 0..169 {
-        let number = 2 * k + 1;
-        assert_eq!(rt;
-            host.came(number, Some(number), false, Tag::count(number)),
-            Ok(true)
-        );
-        host.acked(number);
+        assert_eq!(rt; comes(&mut host, first(2 * k + 1)), Some(true));
+        host.acked(2 * k + 1);
     }
     // the number that comes next; the tag; octets with the highest and the first listed, and with the last
     // listed: 168 of the 169 gaps while there are so many, and then all
-    let rows: [(Option<u32>, u32, [u8; 8], [u8; 7]); 2] = [
+    let rows: [(u32, u32, [u8; 8], [u8; 7]); 2] = [
         (
-            None,
+            337,
             335,
             [0x11, 168, 0, 1, 79, 0, 0, 0],
             [0, 1, 78, 0, 1, 78, 0],
         ),
         (
-            Some(0),
+            0,
             337,
             [0x11, 168, 0, 1, 81, 0, 0, 2],
             [0, 1, 80, 0, 1, 80, 0],
         ),
     ];
     for (number, named, front, back) in rows {
-        if let Some(number) = number {
-            assert_eq!(rt;
-                host.came(number, Some(number), false, Tag::count(number)),
-                Ok(true)
-            );
-            host.acked(number);
-        }
-        let (f, tag) = host.status().expect(&rt, "memory");
+        let _new = comes(&mut host, first(number));
+        host.acked(number);
+        let (octets, tag) = status_of(rt.alloc(), &host).expect(&rt, "memory");
         assert_eq!(rt; tag, Tag::count(named));
-        let written = encode(rt.alloc(), &f).expect(&rt, "memory");
-        assert_eq!(rt; written.len(), 1014);
-        let (first, rest) = written.as_slice().split_at(8);
+        assert_eq!(rt; octets.len(), 1014);
+        let (first, rest) = octets.as_slice().split_at(8);
         assert_eq!(rt; first, front.as_slice());
         assert_eq!(rt; rest.split_at(999).1, back.as_slice());
     }
