@@ -175,10 +175,14 @@ fn the_second_of_three_is_lost(rt: HostRuntime) {
 
         let pdus = [(Some(0), false), (Some(1), false), (Some(2), false)];
         let mut tunnel = sent(rt.alloc(), SnLen::S12, pdus).expect(&rt, "memory");
-        let (now, again) = says(rt.alloc(), &mut tunnel, 0, &octets).expect(&rt, "memory");
+        let (now, again) = says(rt.alloc(), &mut tunnel, 0, octets.as_slice()).expect(
+            &rt, "memory",
+        );
         assert_eq!(rt; now.as_slice(), confirmed);
         assert_eq!(rt; again.as_slice(), [1].as_slice());
-        let (now, again) = says(rt.alloc(), &mut tunnel, 0, &octets).expect(&rt, "memory");
+        let (now, again) = says(rt.alloc(), &mut tunnel, 0, octets.as_slice()).expect(
+            &rt, "memory",
+        );
         assert_eq!(rt; (now.len(), again.len()), (0, 0));
     }
 }
