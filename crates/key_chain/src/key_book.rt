@@ -88,9 +88,31 @@ impl KeyBook {
 
     /// The number of the current root.
     pub fn current(&self) -> u32
-        ensures { result ≡ self.now.current }
+        ensures number { result ≡ self.now.current }
+        ensures noted { self.now.current < length self.now.roots }
     {
         self.current
+    }
+
+    /// How many roots were noted: the number that the next one gets.
+    pub fn roots_noted(&self) -> usize
+        ensures { result ≡ length self.now.roots }
+    {
+        self.roots.len()
+    }
+
+    /// Whether a root of these octets was noted.
+    pub fn is_noted(&self, root: &[u8; 32]) -> bool
+        ensures { result ≡ is_noted self.now.roots root.now }
+    {
+        self.roots.contains_key(root)
+    }
+
+    /// How many SN Counters of the current root were drawn.
+    pub fn counters_drawn(&self) -> u32
+        ensures { result ≡ counters_drawn self.now self.now.current }
+    {
+        self.roots[self.current as usize]
     }
 
     /// Draws the next SN Counter of the current root: 0 for its first K_SN, and one more for each further

@@ -64,20 +64,39 @@ impl Legs {
         }
     }
 
+    /// The shape of the bearer.
+    pub fn shape(&self) -> Shape
+        ensures { result ≡ self.now.shape }
+    {
+        self.shape
+    }
+
+    /// Whether the bearer has the leg.
+    pub fn has_leg(&self, cell: Cell) -> bool
+        ensures { result ≡ has_leg self.now.shape.legs cell }
+    {
+        has_leg(self.shape.legs, cell)
+    }
+
+    /// Whether the leg was marked as failed.
+    pub fn has_failed(&self, cell: Cell) -> bool
+        ensures { result ≡ (leg_at self.now cell).failed }
+    {
+        match cell {
+            Cell::Mcg => self.mcg.is_failed(),
+            Cell::Scg => self.scg.is_failed(),
+        }
+    }
+
     /// Whether the bearer has the leg, and it did not fail.
     pub fn is_live(&self, cell: Cell) -> bool
         ensures { result ≡ is_live self.now cell }
     {
-        let failed = match cell {
-            Cell::Mcg => self.mcg.is_failed(),
-            Cell::Scg => self.scg.is_failed(),
-        };
-        has_leg(self.shape.legs, cell) && !failed
+        self.has_leg(cell) && !self.has_failed(cell)
     }
 
     /// To which legs the next PDU goes (TS 38.323, 5.2.1 and 5.11.1).
     pub fn route(&self, policies: &Policies, is_data: bool) -> Route
-        requires { self.now.policy < length (margins policies.now) }
         ensures { result ≡ route_of self.now (margins policies.now) is_data }
     {
         match (self.is_live(Cell::Mcg), self.is_live(Cell::Scg)) {
@@ -96,7 +115,6 @@ impl Legs {
 
     /// The route of a data PDU where both legs are live.
     fn data_route(&self, policies: &Policies) -> Route
-        requires { self.now.policy < length (margins policies.now) }
         ensures { result ≡ data_route self.now (margins policies.now) }
     {
         let mcg = self.mcg.volume();

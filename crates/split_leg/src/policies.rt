@@ -82,14 +82,17 @@ impl Policies {
         self.list.len()
     }
 
-    /// The leg that policy `i` chooses at these volumes, in octets, both below 2^48.
+    /// The leg that policy `i` chooses at these volumes, in octets, both below 2^48. Where no policy has that number, it is
+    /// the SCG leg while its volume is at most that of the MCG leg.
     pub fn choose(&self, i: usize, mcg: u64, scg: u64) -> Choice
-        requires index { i < length (margins self.now) }
         requires mcg { mcg < 2 ^ 48 }
         requires scg { scg < 2 ^ 48 }
         ensures choice { result ≡ chosen (margins_at (margins self.now) i) mcg scg }
         ensures near { chosen_volume result mcg scg ≤ other_volume result mcg scg + max (margins_at (margins self.now) i).plus (margins_at (margins self.now) i).minus }
     {
-        self.list[i].choose(mcg, scg)
+        match self.list.get(i) {
+            Some(policy) => policy.choose(mcg, scg),
+            None => { if scg <= mcg { Choice::Scg } else { Choice::Mcg } }
+        }
     }
 }
