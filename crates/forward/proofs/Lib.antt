@@ -1,3 +1,4 @@
 pub mod Arrivals
+pub mod Carrying
 pub mod Frames
 pub mod Numbers

@@ -1,26 +1,31 @@
 //! The receiving end of a tunnel. After `Memory` it is as before.
 
-ghost use Rattle.std.specs.Prelude.{◌≡◌, ℕ, Bool, ◌^◌, ◌<◌, ◌≤◌, ◌↔◌, ◌⊎◌, List, [], false, true, length, Some, None, IsSome, IsTrue, is_some, slice_get, IfOk, IfErr, OnOk, OnErr, MatchOption};
+ghost use Rattle.std.specs.Prelude.{◌≡◌, ℕ, ◌^◌, ◌<◌, ◌↔◌, ◌⊎◌, List, true, length, Some, None, IsSome, IsTrue, is_some, IfOk, IfErr, OnOk, OnErr};
 ghost use Rattle.std.specs.Ordering.{nat_cmp};
-ghost use Rattle.std.specs.Option.{option_map};
-ghost use Rattle.std.specs.FinMap as map;
+ghost use Rattle.std.specs.BTreeMap.{insert_entry};
 ghost use Rattle.gtpu.specs.Content.{view};
-ghost use Rattle.forward.specs.Load.{Sdu, Load, Piece, Total, Nothing, sn_of, HasNumber, Carries};
-ghost use Rattle.forward.specs.Incoming.{after, nothing_came, IsDone, IsListOf, IsFront, by_number, CameBelow, AreSmall, IsFirstMissing};
+ghost use Rattle.forward.specs.Load.{Sdu as Forwarding, Load as Said, Piece, Total, Carries};
+ghost use Rattle.forward.specs.Reading.{said_load};
+ghost use Rattle.forward.specs.Forwarded.{after, nothing_came, whole};
+ghost use Rattle.forward.specs.Kept.{under, IsFront, CameBelow, AreSmall, IsFirstMissing};
 ghost use Rattle.forward.specs.Tunnel.{Tunnel, IsPacketOf, IsEndOf, IsLater, IsListSent};
 
+use crate::load::{Load, carried};
 use dc_base::{Memory, Octets, Seq};
-use gtpu::{GtpKind, Packet, PduNumber};
-use nr_u::{Frame, NruErr};
+use gtpu::Packet;
 use std::alloc::Global;
 use std::collections::BTreeMap;
 use std::marker::Model;
 use thiserror::Error;
 
+/// Forward numbers have 24 bits.
+const NUMBERS: u32 = 1 << 24;
+
 /// An SDU with its PDCP SN, if it has one.
 type Sdu = (Option<u32>, Octets);
 
-/// The receiving end of a forwarding tunnel. Contracts see a map from forward number to SDU, and a total.
+/// The receiving end of a forwarding tunnel. Contracts see the SDUs by their forward numbers, which
+/// ascend, and the total.
 #[derive(Debug, Drop)]
 pub struct ForwardIn {
     alloc: Global,
@@ -33,15 +38,14 @@ pub struct ForwardIn {
 }
 
 impl Model for ForwardIn {
-    ghost use Rattle.forward.specs.Incoming.{Incoming, incoming_code, by_number, IsFirstMissing};
+    ghost use Rattle.forward.specs.Forwarded.{Forwarded};
+    ghost use Rattle.forward.specs.Kept.{IsFirstMissing};
 
-    ghost Value = { Incoming };
+    ghost Value = { Forwarded };
 
-    ghost coded = { incoming_code };
+    ghost view = { λ a. record { sdus = a.sdus.entries; total = a.total } };
 
-    ghost view = { λ a. record { sdus = by_number a.sdus.entries; total = a.total } };
-
-    ghost invariant = { λ a. IsFirstMissing (by_number a.sdus.entries) a.missing };
+    ghost invariant = { λ a. IsFirstMissing a.sdus.entries a.missing };
 }
 
 /// Why there is no list.
@@ -55,54 +59,16 @@ pub enum ListErr {
     Memory,
 }
 
-/// The SN that a PDCP PDU number carries.
-fn sn_in(number: Option<PduNumber>) -> Option<u32>
-    ensures { result ≡ option_map sn_of number }
-{
-    match number {
-        None => None,
-        Some(PduNumber::Short(sn)) => Some(u32::from(sn)),
-        Some(PduNumber::Long(sn)) => Some(sn),
-    }
-}
-
-/// Whether a packet has neither number nor body, as a total.
-fn is_bare(p: &Packet<'_>) -> bool
-    ensures bare { result ≡ true → (p.now.number ≡ None) × (p.now.body.now ≡ []) }
-    ensures not_bare { result ≡ false → p.now.number ≡ None → p.now.body.now ≡ [] → ⊥ }
-{
-    p.number.is_none() && p.body.is_empty()
-}
-
-/// The number in a packet's user data frame, and whether user data is with it, if the packet has such a frame.
-fn number_in(alloc: Global, p: &Packet<'_>) -> Result<Option<(u32, bool)>, Memory>
-    ensures { IfOk result (λ found. MatchOption found
-        ((number : ℕ) (user : Bool) → HasNumber (view p.now) number user → ⊥)
-        (λ x. HasNumber (view p.now) x.0 x.1 × (x.0 < 2 ^ 24))) }
-{
-    if p.kind != GtpKind::GPdu {
-        return Ok(None);
-    }
-    let Some(container) = p.container else {
-        return Ok(None);
-    };
-    match nr_u::decode(alloc, container) {
-        Ok(Frame::User { number, user, .. }) => Ok(Some((number, user))),
-        Err(NruErr::Memory) => Err(Memory),
-        _ => Ok(None),
-    }
-}
-
 /// Whether an SDU of this number came.
 fn has(sdus: &BTreeMap<u32, Sdu>, number: u32) -> bool
-    ensures { result ≡ is_some (map.get (by_number sdus.now.entries) number) }
+    ensures { result ≡ is_some (under sdus.now.entries number) }
 {
     sdus.contains_key(&number)
 }
 
 /// Keeps an SDU.
 fn keep(sdus: &mut BTreeMap<u32, Sdu>, number: u32, sdu: Sdu) -> Result<(), Memory>
-    ensures ok { OnOk result (by_number sdus.new.entries ≡ map.insert (by_number sdus.old.entries) number sdu) }
+    ensures ok { OnOk result (sdus.new.entries ≡ insert_entry nat_cmp sdus.old.entries number sdu) }
     ensures err { OnErr result (sdus.new.entries ≡ sdus.old.entries) }
 {
     sdus.insert(number, sdu)?;
@@ -111,9 +77,9 @@ fn keep(sdus: &mut BTreeMap<u32, Sdu>, number: u32, sdu: Sdu) -> Result<(), Memo
 
 /// The first number from `from` on that did not come.
 fn first_missing(sdus: &BTreeMap<u32, Sdu>, from: u32) -> u32
-    requires below { CameBelow (by_number sdus.now.entries) from }
-    requires small { AreSmall (by_number sdus.now.entries) }
-    ensures { IsFirstMissing (by_number sdus.now.entries) result }
+    requires below { CameBelow sdus.now.entries from }
+    requires small { AreSmall sdus.now.entries }
+    ensures { IsFirstMissing sdus.now.entries result }
 {
     let mut missing = from;
     while has(sdus, missing) {
@@ -124,17 +90,17 @@ fn first_missing(sdus: &BTreeMap<u32, Sdu>, from: u32) -> u32
 
 /// Takes out the SDU of this number, which came.
 fn take_out(sdus: &mut BTreeMap<u32, Sdu>, number: u32) -> Sdu
-    requires { IsSome (map.get (by_number sdus.old.entries) number) }
-    ensures value { map.get (by_number sdus.old.entries) number ≡ Some result }
-    ensures others { (q : ℕ) → number < q → map.get (by_number sdus.new.entries) q ≡ map.get (by_number sdus.old.entries) q }
+    requires { IsSome (under sdus.old.entries number) }
+    ensures value { under sdus.old.entries number ≡ Some result }
+    ensures others { (q : ℕ) → number < q → under sdus.new.entries q ≡ under sdus.old.entries q }
 {
     sdus.remove(&number).unwrap()
 }
 
 /// The SDUs of the numbers below the total, all of which came.
 fn in_order(alloc: Global, sdus: BTreeMap<u32, Sdu>, total: u32) -> Result<Seq<Sdu>, Memory>
-    requires { CameBelow (by_number sdus.entries) total }
-    ensures { IfOk result (IsFront (by_number sdus.entries) total) }
+    requires { CameBelow sdus.entries total }
+    ensures { IfOk result (IsFront sdus.entries total) }
 {
     let mut sdus = sdus;
     let mut list = Seq::new(alloc);
@@ -160,11 +126,13 @@ impl ForwardIn {
     }
 
     /// Takes an SDU, unless one of its number came before.
-    fn take(&mut self, number: u32, sn: Option<u32>, sdu: &[u8]) -> Result<(), Memory>
-        requires { number < 2 ^ 24 }
+    fn take_piece(&mut self, number: u32, sn: Option<u32>, sdu: &[u8]) -> Result<(), Memory>
         ensures ok { OnOk result (self.new ≡ after self.old (Piece number (sn, sdu.now))) }
         ensures err { OnErr result (self.new ≡ self.old) }
     {
+        if number >= NUMBERS {
+            return Err(Memory);
+        }
         if has(&self.sdus, number) {
             return Ok(());
         }
@@ -183,30 +151,37 @@ impl ForwardIn {
         }
     }
 
-    /// Takes what a packet carries.
-    fn take_in(&mut self, p: &Packet<'_>) -> Result<(), Memory>
-        ensures ok { OnOk result ((load : Load) × Carries (view p.now) load × (self.new ≡ after self.old load)) }
+    /// Takes what a packet carries. The first SDU of each forward number counts, and the first total. A packet has
+    /// forward numbers below 2^24; of an SDU with a greater one it says `Memory`.
+    pub fn take(&mut self, load: &Load<'_>) -> Result<(), Memory>
+        ensures ok { OnOk result (self.new ≡ after self.old (said_load load.now)) }
         ensures err { OnErr result (self.new ≡ self.old) }
     {
-        let Some((number, user)) = number_in(self.alloc, p)? else {
-            return Ok(());
-        };
-        if user {
-            return self.take(number, sn_in(p.number), p.body);
+        match *load {
+            Load::Piece { number, sn, sdu } => self.take_piece(number, sn, sdu),
+            Load::Total { number } => {
+                self.end_at(number);
+                Ok(())
+            }
+            Load::Nothing => Ok(()),
         }
-        if !is_bare(p) {
-            return Ok(());
-        }
-        self.end_at(number);
-        Ok(())
+    }
+
+    /// Takes what a packet carries.
+    fn take_in(&mut self, p: &Packet<'_>) -> Result<(), Memory>
+        ensures ok { OnOk result ((load : Said) × Carries (view p.now) load × (self.new ≡ after self.old load)) }
+        ensures err { OnErr result (self.new ≡ self.old) }
+    {
+        let load = carried(self.alloc, p)?;
+        self.take(&load)
     }
 
     /// Takes a packet of the tunnel. The first of each forward number counts, and the first total; any other
     /// packet changes nothing.
     pub fn came(&mut self, p: &Packet<'_>) -> Result<(), Memory>
-        ensures ok { OnOk result ((load : Load) × Carries (view p.now) load × (self.new ≡ after self.old load)) }
+        ensures ok { OnOk result ((load : Said) × Carries (view p.now) load × (self.new ≡ after self.old load)) }
         // A packet carries one thing.
-        ensures only { (load : Load) → Carries (view p.now) load → OnOk result (self.new ≡ after self.old load) }
+        ensures only { (load : Said) → Carries (view p.now) load → OnOk result (self.new ≡ after self.old load) }
         // An end that has nothing but what the tunnel was given so far takes nothing else from a packet of it.
         ensures kept { (t : Tunnel) → length t.sdus < 2 ^ 24 → IsPacketOf t (view p.now) → IsEndOf t self.old → IsEndOf t self.new }
         // Both last when the tunnel is given more.
@@ -218,8 +193,8 @@ impl ForwardIn {
 
     /// The list of an end that is done, or the end as it was.
     fn list_if_done(self) -> Result<Seq<Sdu>, ListErr>
-        ensures list { IfOk result (IsListOf self) }
-        ensures err { IfErr result (λ e. ((e ≡ ListErr.Memory) × IsDone self) ⊎ ((e ≡ ListErr.NotDone self) × ¬ IsDone self)) }
+        ensures list { IfOk result (λ list. whole self ≡ Some list) }
+        ensures err { IfErr result (λ e. ((e ≡ ListErr.Memory) × IsSome (whole self)) ⊎ ((e ≡ ListErr.NotDone self) × (whole self ≡ None))) }
     {
         let Some(total) = self.total else {
             return Err(ListErr::NotDone(self));
@@ -237,20 +212,20 @@ impl ForwardIn {
     /// The SDUs in the order of their numbers. Where the end is not done, it is given back as it was, before any
     /// memory is asked for.
     pub fn into_list(self) -> Result<Seq<(Option<u32>, Octets)>, ListErr>
-        ensures list { IfOk result (IsListOf self) }
-        ensures only { (list : List Sdu) → IsListOf self list → IfOk result (λ made. made ≡ list) }
+        ensures list { IfOk result (λ list. whole self ≡ Some list) }
+        ensures only { (list : List Forwarding) → whole self ≡ Some list → IfOk result (λ made. made ≡ list) }
         // An end that is done, and has nothing but what the tunnel was given, has all of it, in order.
-        ensures sent { (t : Tunnel) → IsEndOf t self → IsDone self → IsListOf self t.sdus × (t.closed ≡ true) }
+        ensures sent { (t : Tunnel) → IsEndOf t self → IsSome (whole self) → (whole self ≡ Some t.sdus) × (t.closed ≡ true) }
         // So the list is what was sent, whatever was lost, repeated or reordered on the way.
         ensures whatever_came { IfOk result (IsListSent self) }
-        ensures err { IfErr result (λ e. ((e ≡ ListErr.Memory) × IsDone self) ⊎ ((e ≡ ListErr.NotDone self) × ¬ IsDone self)) }
+        ensures err { IfErr result (λ e. ((e ≡ ListErr.Memory) × IsSome (whole self)) ⊎ ((e ≡ ListErr.NotDone self) × (whole self ≡ None))) }
     {
         self.list_if_done()
     }
 
     /// Whether the total and all SDUs below it came. It takes no memory, and the time of a comparison.
     pub fn is_done(&self) -> bool
-        ensures { IsTrue result ↔ IsDone self.now }
+        ensures { IsTrue result ↔ IsSome (whole self.now) }
     {
         match self.total {
             None => false,

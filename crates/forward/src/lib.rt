@@ -4,9 +4,11 @@
 #![tactic(auto)]
 
 mod incoming;
+mod load;
 mod outgoing;
 
 pub use incoming::{ForwardIn, ListErr};
+pub use load::{Load, carried, frame_in, load_in};
 pub use outgoing::ForwardOut;
 
 #[cfg(test)]

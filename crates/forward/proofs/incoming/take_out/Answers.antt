@@ -1,13 +1,13 @@
 use Rattle.std.proofs.Common.{ap, sym, ◌∙◌}
 use Rattle.std.specs.Prelude.{is_some}
-use Rattle.forward.proofs.Numbers.{get-by_number, get-removed}
+use Rattle.forward.proofs.Numbers.{under-removed}
 use Rattle.forward.proofs.incoming.take_out.Goals as goal
 
 pub unwrap-requires : goal.unwrap-requires
-unwrap-requires c = ap is_some (c.remove.ensures.value ∙ sym (get-by_number c.args.sdus.now.entries c.args.number)) ∙ c.requires
+unwrap-requires c = ap is_some c.remove.ensures.value ∙ c.requires
 
 pub returns-clause-value : goal.returns-clause-value
-returns-clause-value c = get-by_number c.args.sdus.now.entries c.args.number ∙ (sym c.remove.ensures.value ∙ c.unwrap.ensures)
+returns-clause-value c = sym c.remove.ensures.value ∙ c.unwrap.ensures
 
 pub returns-clause-others : goal.returns-clause-others
-returns-clause-others c q less = get-removed c.args.sdus.now.entries c.remove.new.self.entries c.args.number q less (c.remove.ensures.updates.0 q)
+returns-clause-others c q less = under-removed c.args.sdus.now.entries c.remove.new.self.entries c.args.number q less (c.remove.ensures.updates.0 q)

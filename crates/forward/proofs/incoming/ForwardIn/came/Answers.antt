@@ -1,7 +1,7 @@
 use Rattle.std.proofs.Common.{ap, ◌∙◌}
 use Rattle.std.proofs.lemmas.Result.{on_ok_weaker}
 use Rattle.gtpu.specs.Content.{view}
-use Rattle.forward.specs.Incoming.{after}
+use Rattle.forward.specs.Forwarded.{after}
 use Rattle.forward.proofs.Arrivals.{one_load, came_kept, packet_later, end_later}
 use Rattle.forward.proofs.incoming.ForwardIn.came.Goals as goal
 

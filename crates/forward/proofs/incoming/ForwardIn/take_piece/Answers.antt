@@ -1,7 +1,7 @@
-use Rattle.std.proofs.Common.{sym, subst}
-use Rattle.forward.specs.Incoming.{CameBelow, AreSmall}
+use Rattle.std.proofs.Common.{sym, subst, arith}
+use Rattle.forward.specs.Kept.{CameBelow, AreSmall}
 use Rattle.forward.proofs.Numbers.{below-insert, small-insert}
-use Rattle.forward.proofs.incoming.ForwardIn.take.Goals as goal
+use Rattle.forward.proofs.incoming.ForwardIn.take_piece.Goals as goal
 
 pub first_missing-self-inside-requires-clause-below : goal.first_missing-self-inside-requires-clause-below
 first_missing-self-inside-requires-clause-below c =
@@ -9,4 +9,4 @@ first_missing-self-inside-requires-clause-below c =
 
 pub first_missing-self-inside-requires-clause-small : goal.first_missing-self-inside-requires-clause-small
 first_missing-self-inside-requires-clause-small c =
-    subst AreSmall (sym c.in_ok-keep.ensures.ok) (small-insert _ _ _ c.requires c.self.invariant.small)
+    subst AreSmall (sym c.in_ok-keep.ensures.ok) (small-insert _ _ _ (omega arith) c.self.invariant.small)
