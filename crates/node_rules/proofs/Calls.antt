@@ -43,7 +43,7 @@ use Rattle.node_rules.specs.MasterCommands.{master_command}
 use Rattle.node_rules.specs.MasterTaking.{master_take}
 use Rattle.dc_base.specs.declared.answers.Refusal.{Refusal}
 use Rattle.node_rules.specs.Acts.{first_refusal}
-use Rattle.node_rules.specs.CommandTable.{Row}
+use Rattle.node_rules.specs.declared.commands.Row.{Row}
 use Rattle.node_rules.specs.Flights.{weight}
 use Rattle.node_rules.specs.MasterStep.{submit_refusals}
 use Rattle.node_rules.specs.NodeRule.{NodeState, terminal_node}

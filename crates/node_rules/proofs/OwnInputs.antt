@@ -3,7 +3,9 @@ use Rattle.std.proofs.Common.{◌≡◌, ◌++◌, List, [], ◌∷◌, refl, sy
 use Rattle.dc_base.specs.declared.events.Event.{Event}
 use Rattle.dc_base.specs.declared.nodes.Node.{Node}
 use Rattle.dc_base.specs.declared.nodes.Node.TheVariants.{T, M, A, B}
-use Rattle.node_rules.specs.Choices.{Choices, Input, Outcome}
+use Rattle.node_rules.specs.declared.inputs.Input.{Input}
+use Rattle.node_rules.specs.declared.inputs.Outcome.{Outcome}
+use Rattle.node_rules.specs.Choices.{Choices}
 use Rattle.node_rules.specs.NodeRule.{NodeState, node_step, after_inputs}
 use Rattle.node_rules.specs.Run.{Happening, given_to, refused_for, on_links, happening, takes, carried_on, moved_on, world_step, world_after, node_at, input_of, inputs_of}
 use Rattle.node_rules.specs.World.{World}

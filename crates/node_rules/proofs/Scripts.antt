@@ -9,7 +9,9 @@ use Rattle.dc_base.specs.declared.nodes.Shape.{Shape}
 use Rattle.transcript.specs.Text.{line_text, mark, note_text, rec_text}
 use Rattle.transcript.specs.Transcript.{Entry, entry_lines}
 use Rattle.transcript.specs.Words.{node_word, refusal_word, spaced}
-use Rattle.node_rules.specs.Acts.{Act, ProcFault, fail_one, go, pass, prepare, recover_one, refused, say, send, unexpected, unlock_all}
+use Rattle.node_rules.specs.declared.acts.Act.{Act}
+use Rattle.node_rules.specs.declared.acts.Act.TheVariants.{FailOne as fail_one, Go as go, Pass as pass, Prepare as prepare, RecoverOne as recover_one, Say as say, Send as send, UnlockAll as unlock_all}
+use Rattle.node_rules.specs.Acts.{ProcFault, refused, unexpected}
 use Rattle.node_rules.specs.AnchorSending.{recover}
 use Rattle.node_rules.specs.Choices.{Choices}
 use Rattle.node_rules.specs.MasterState.{MasterActs, MasterProc}
@@ -29,7 +31,7 @@ and_on f x = let rest = f x.0 in (rest.0, x.1 ∷ rest.1)
 abbrev pub drained : Choices → ℕ → World → World × List Entry
 drained c zero w = (w, [])
 drained c (suc k) w =
-    elim (first_loaded w.standing) [ None ↦ (w, []) | Some l ↦ and_on (drained c k) (world_step c w (event.Step l 0)) ]
+    elim (first_loaded w.links) [ None ↦ (w, []) | Some l ↦ and_on (drained c k) (world_step c w (event.Step l 0)) ]
 
 -- the lines of a script in turn
 abbrev pub script_run : Choices → World → List Scripted → List Entry

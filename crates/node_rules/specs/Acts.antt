@@ -7,18 +7,7 @@ use Rattle.dc_base.specs.declared.records.Plan.{Plan}
 use Rattle.dc_base.specs.declared.records.Rec.{Rec}
 use Rattle.dc_base.specs.declared.records.RecKind.{RecKind}
 use Rattle.dc_base.specs.declared.records.StatusTransfer.{StatusTransfer}
-
--- a record to a node; waiting anchors made for a plan; a plan carried out; the node's anchors of a generation opened; a line;
--- the node's anchor of an identity recovered; its SCG leg in a generation failed; a status transfer for the node's own anchor
-pub data Act : Type 0 where
-  send : (to : Node) → (record_sent : Rec) → Act
-  prepare : (plan : Plan) → Act
-  go : (plan : Plan) → Act
-  unlock_all : (g : ℕ) → Act
-  say : (note : Note) → Act
-  recover_one : (id : ℕ) → Act
-  fail_one : (id : ℕ) → (g : ℕ) → Act
-  pass : (status : StatusTransfer) → Act
+use Rattle.node_rules.specs.declared.acts.Act.{Act}
 
 -- a command is refused, or a record has no row in the state
 pub data ProcFault : Type 0 where

@@ -9,11 +9,12 @@ use Rattle.dc_base.specs.declared.nodes.Dir.TheVariants.{Ul, Dl}
 use Rattle.dc_base.specs.declared.records.StatusTransfer.{StatusTransfer}
 use Rattle.forward.specs.Load.{Sdu, Load}
 use Rattle.pdcp_rx.specs.Entries.{Entry, is_stored, with_sdu}
-use Rattle.node_rules.specs.Anchor.{Active, AnchorOut, AnchorState, Waiting, active_anchor, new_tunnel, silent, waiting_anchor}
+use Rattle.node_rules.specs.declared.bearers.AnchorOut.{AnchorOut}
+use Rattle.node_rules.specs.Anchor.{Active, AnchorState, Waiting, active_anchor, new_tunnel, silent, waiting_anchor}
 use Rattle.node_rules.specs.AnchorSending.{open_if}
 use Rattle.node_rules.specs.Choices.{Choices, Send}
 use Rattle.node_rules.specs.Entity.{Entity, risen_low, take_pdus}
-use Rattle.node_rules.specs.Forwarded.{after, whole}
+use Rattle.forward.specs.Forwarded.{after, whole}
 use Rattle.node_rules.specs.Setup.{is_of}
 
 -- ---- what of the forwarded SDUs is taken

@@ -7,8 +7,9 @@ use Rattle.pdcp_pdu.specs.Pdu.{Content}
 use Rattle.pdcp_tx.specs.Sender.{low}
 use Rattle.node_rules.specs.Choices.{Send}
 use Rattle.node_rules.specs.Entity.{Entity, new_entity, renewed}
-use Rattle.node_rules.specs.Forwarded.{Forwarded, nothing_came}
+use Rattle.forward.specs.Forwarded.{Forwarded, nothing_came}
 use Rattle.node_rules.specs.Setup.{Setup}
+use Rattle.node_rules.specs.declared.bearers.AnchorOut.{AnchorOut}
 
 -- an anchor with the PDCP entity and its end of the tunnel to the host. It is closed until the reconfiguration is complete,
 -- and open from then on
@@ -31,14 +32,6 @@ pub record Waiting : Type 0 where
 pub data AnchorState : Type 0 where
   waiting_anchor : (w : Waiting) → AnchorState
   active_anchor : (a : Active) → AnchorState
-
--- what an anchor gives in one step: whether it adopted, the SDUs handed up with their COUNTs, Low where it rose, and
--- the sends
-pub record AnchorOut : Type 0 where
-  pub adopted : Bool
-  pub ups : List (ℕ × List ℕ)
-  pub low : Option ℕ
-  pub sends : List Send
 
 -- nothing comes of it
 abbrev pub silent : AnchorOut

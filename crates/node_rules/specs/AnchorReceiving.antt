@@ -14,7 +14,8 @@ use Rattle.pdcp_tx.specs.Sender.{low}
 use Rattle.split_leg.specs.Legs.{acked_count, leg_at, with_ack, with_leg}
 use Rattle.dc_base.specs.Links.{link}
 use Rattle.node_rules.specs.Adopting.{forward_in}
-use Rattle.node_rules.specs.Anchor.{Active, AnchorOut, AnchorState, active_anchor, setup_at, silent, waiting_anchor}
+use Rattle.node_rules.specs.declared.bearers.AnchorOut.{AnchorOut}
+use Rattle.node_rules.specs.Anchor.{Active, AnchorState, active_anchor, setup_at, silent, waiting_anchor}
 use Rattle.node_rules.specs.AnchorSending.{anchor_sends}
 use Rattle.node_rules.specs.Choices.{Choices, Send}
 use Rattle.node_rules.specs.Entity.{Entity, confirmed_count, confirmed_where, risen_low, take_pdu}

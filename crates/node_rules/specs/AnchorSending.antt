@@ -11,11 +11,13 @@ use Rattle.pdcp_tx.specs.Sender.{Sender}
 use Rattle.pdcp_tx.specs.Sending.{take_sdu, hold_sdu, give_numbers}
 use Rattle.pdcp_tx.specs.declared.tx.TxErr.{TxErr}
 use Rattle.dc_base.specs.Links.{link}
-use Rattle.node_rules.specs.Anchor.{Active, AnchorOut, AnchorState, active_anchor, sending, silent, waiting_anchor}
+use Rattle.node_rules.specs.declared.bearers.AnchorOut.{AnchorOut}
+use Rattle.node_rules.specs.Anchor.{Active, AnchorState, active_anchor, sending, silent, waiting_anchor}
 use Rattle.node_rules.specs.Choices.{Choices, Send}
 use Rattle.node_rules.specs.Entity.{Entity}
 use Rattle.node_rules.specs.Packets.{down_packet}
-use Rattle.node_rules.specs.Sending.{OnLeg, send_counts, send_kept, send_report}
+use Rattle.node_rules.specs.declared.bearers.OnLeg.{OnLeg}
+use Rattle.node_rules.specs.Sending.{send_counts, send_kept, send_report}
 use Rattle.node_rules.specs.Setup.{Setup, anchor_cell, host_of, is_same_cell, with_failed_scg}
 
 -- ---- how PDUs leave the anchor

@@ -11,20 +11,8 @@ use Rattle.dc_base.specs.declared.records.Item.TheVariants as item
 use Rattle.dc_base.specs.declared.records.Plan.{Plan}
 use Rattle.key_chain.specs.Book.{Book, Claim, counters_drawn, is_spent, with_claim}
 use Rattle.node_rules.specs.Places.{anchor_at}
-
--- a bearer: its identity, its establishment (named by the generation that set it up), what it was set up with, its key, the
--- node of its anchor, and the generation of the last plan that set it
-pub record Row : Type 0 where
-  pub id : ℕ
-  pub est : ℕ
-  pub n : SnLen
-  pub first : ℕ
-  pub shape : Shape
-  pub threshold : ℕ
-  pub policy : ℕ
-  pub key : KeyName
-  pub anchor : Node
-  pub g : ℕ
+use Rattle.node_rules.specs.declared.commands.Row.{Row}
+use Rattle.node_rules.specs.declared.commands.Change.{Change}
 
 -- the secondary node, the book of root keys, SN Counters and claims, the current K_SN, the bearers by ascending identity, and
 -- the generation drawn last; before the first K_SN the name of the current one does not matter
@@ -90,12 +78,6 @@ rows_after t g sec rows (item.Unset id) = filter (λ r. not (r.id == id)) rows
 -- the book with the claims of a plan (TS 38.331, 5.3.5.6.5: a key is not used again for an identity)
 abbrev pub claimed : Book → List Claim → Book
 claimed b claims = record b { claims = fold with_claim b.claims claims }
-
--- a plan with the root and the K_SN that are current once it is carried out
-pub record Change : Type 0 where
-  pub plan : Plan
-  pub root : ℕ
-  pub second_key : KeyName
 
 -- the table after a change was carried out
 abbrev pub carried : Table → Change → Table

@@ -11,14 +11,12 @@ use Rattle.dc_base.specs.declared.records.Item.TheVariants as item
 use Rattle.dc_base.specs.declared.records.Plan.{Plan}
 use Rattle.nr_u.specs.Frames.{number}
 use Rattle.key_chain.specs.Book.{Book, counters_drawn, noting}
-use Rattle.node_rules.specs.CommandTable.{Change, Row, Table, master_key_of, row, second_key_of, with_counter}
+use Rattle.node_rules.specs.declared.commands.Change.{Change}
+use Rattle.node_rules.specs.declared.commands.Row.{Row}
+use Rattle.node_rules.specs.CommandTable.{Table, master_key_of, row, second_key_of, with_counter}
 use Rattle.node_rules.specs.Places.{mm, other_second}
-
--- the first record of a command: S-NODE ADDITION, MODIFICATION or RELEASE REQUEST (TS 38.423, 8.3)
-pub data First : Type 0 where
-  addition : First
-  modification : First
-  release : First
+use Rattle.node_rules.specs.declared.commands.First.{First}
+use Rattle.node_rules.specs.declared.commands.First.TheVariants.{Addition as addition, Modification as modification, Release as release}
 
 -- the change, the book once the command has drawn its root and its SN Counter, and the first record with the node that it
 -- goes to; without one the change is carried out at once

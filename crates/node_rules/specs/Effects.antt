@@ -10,12 +10,9 @@ use Rattle.dc_base.specs.declared.nodes.Class.TheVariants.{Ctl}
 use Rattle.dc_base.specs.declared.nodes.LinkId.{LinkId}
 use Rattle.dc_base.specs.declared.nodes.Node.{Node}
 use Rattle.dc_base.specs.declared.records.Rec.{Rec}
-use Rattle.node_rules.specs.Choices.{Outcome, Send}
-
--- the notes and the sends of a step
-pub record Effects : Type 0 where
-  pub notes : List Note
-  pub sends : List Send
+use Rattle.node_rules.specs.declared.inputs.Outcome.{Outcome}
+use Rattle.node_rules.specs.Choices.{Send}
+use Rattle.node_rules.specs.declared.inputs.Effects.{Effects}
 
 -- nothing comes of it
 abbrev pub quiet : Effects

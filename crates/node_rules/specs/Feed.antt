@@ -2,7 +2,8 @@
 -- frozen while SDUs still come, and the generation of each, are this product's own).
 use Rattle.std.specs.Prelude.{ℕ, ◌==◌, ◌&&◌, nat_le, nat_lt, if◌then◌else◌, Bool, false, List, [], Option, Some, None}
 use Rattle.dc_base.specs.declared.nodes.Node.{Node}
-use Rattle.node_rules.specs.Anchor.{Active, AnchorOut, AnchorState, active_anchor, silent, waiting_anchor}
+use Rattle.node_rules.specs.declared.bearers.AnchorOut.{AnchorOut}
+use Rattle.node_rules.specs.Anchor.{Active, AnchorState, active_anchor, silent, waiting_anchor}
 use Rattle.node_rules.specs.AnchorSending.{submit}
 use Rattle.node_rules.specs.Choices.{Choices, Send}
 use Rattle.node_rules.specs.Freezing.{FreezeOut, Tunnel, forward_end, forward_fresh, freeze}

@@ -7,6 +7,8 @@ use Rattle.nr_u.specs.Frames.{number}
 use Rattle.nr_u.specs.declared.frame.Frame.{Frame}
 use Rattle.nr_u.specs.declared.frame.Frame.TheVariants as frame
 use Rattle.node_rules.specs.Packets.{Packet, delivery, forwarding, nothing, packet_of, pdu_down, pdu_up}
+use Rattle.node_rules.specs.declared.bearers.Weight.{Weight}
+use Rattle.node_rules.specs.declared.bearers.Weight.TheVariants.{DataPduOf as data_pdu_of, DeliveryOf as delivery_of, Weightless as weightless}
 
 -- an identity and a generation
 abbrev pub Named : Type 0
@@ -31,12 +33,6 @@ flight_named (flight.Told id g count) = Some (id, g)
 flight_named (flight.Ctl r) = None
 
 -- ---- by which edge of its receiver's windows a flight ages: the premise on packet lifetime (this product's own)
-
--- a data PDU by that of the receiving side, a delivery status by that of the sending side, and other flights by none
-pub data Weight : Type 0 where
-  data_pdu_of : (id : ℕ) → (g : ℕ) → (count : ℕ) → Weight
-  delivery_of : (id : ℕ) → (g : ℕ) → (count : ℕ) → Weight
-  weightless : Weight
 
 -- a PDU with its COUNT
 abbrev pub pdu_weight : ℕ → ℕ → ℕ → List ℕ → Weight

@@ -8,7 +8,6 @@ pub mod Setup
 pub mod Entity
 pub mod Sending
 pub mod Packets
-pub mod Forwarded
 pub mod Anchor
 pub mod AnchorSending
 pub mod Adopting

@@ -10,7 +10,8 @@ use Rattle.dc_base.specs.declared.events.Note.TheVariants as note
 use Rattle.dc_base.specs.declared.events.Line.{Line}
 use Rattle.dc_base.specs.declared.events.Line.TheVariants as line
 use Rattle.dc_base.specs.Links.{all_links, is_same_link}
-use Rattle.node_rules.specs.Choices.{Outcome, Send}
+use Rattle.node_rules.specs.declared.inputs.Outcome.{Outcome}
+use Rattle.node_rules.specs.Choices.{Send}
 
 -- where a note stands among the notes of an event; the sends stand after place 4
 abbrev pub place : Note → ℕ

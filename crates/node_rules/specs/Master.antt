@@ -9,17 +9,15 @@ use Rattle.dc_base.specs.declared.nodes.Dir.TheVariants.{Dl, Ul}
 use Rattle.dc_base.specs.declared.nodes.Node.{Node}
 use Rattle.dc_base.specs.declared.nodes.Node.TheVariants.{M}
 use Rattle.transcript.specs.Bearers.{ups}
-use Rattle.node_rules.specs.Anchor.{AnchorOut, AnchorState, active_anchor, setup_at, waiting_anchor}
-use Rattle.node_rules.specs.CommandTable.{Row}
-use Rattle.node_rules.specs.Effects.{Effects, after_effects, noted, quiet}
+use Rattle.node_rules.specs.declared.bearers.AnchorOut.{AnchorOut}
+use Rattle.node_rules.specs.Anchor.{AnchorState, active_anchor, setup_at, waiting_anchor}
+use Rattle.node_rules.specs.declared.commands.Row.{Row}
+use Rattle.node_rules.specs.declared.inputs.Effects.{Effects}
+use Rattle.node_rules.specs.Effects.{after_effects, noted, quiet}
 use Rattle.node_rules.specs.Held.{held, holding}
 use Rattle.node_rules.specs.Host.{Host}
 use Rattle.node_rules.specs.MasterState.{MasterProc, new_master_proc}
-
--- the window of a bearer's downlink: how many submissions were accepted, and the greatest COUNT that an anchor told as its Low
-pub record Window : Type 0 where
-  pub accepted : ℕ
-  pub told : ℕ
+use Rattle.node_rules.specs.declared.bearers.Window.{Window}
 
 -- the master: the ciphering algorithm, the procedures, and by identities the anchors, the leg hosts and the windows
 pub record MasterNode : Type 0 where

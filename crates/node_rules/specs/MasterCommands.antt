@@ -11,12 +11,15 @@ use Rattle.dc_base.specs.declared.nodes.Shape.{Shape}
 use Rattle.dc_base.specs.declared.records.Rec.TheVariants as rec
 use Rattle.key_chain.specs.Book.{is_noted}
 use Rattle.transcript.specs.Words.{shape_word}
-use Rattle.node_rules.specs.Acts.{ProcFault, first_refusal, recover_one, refused, send}
-use Rattle.node_rules.specs.CommandTable.{Row, is_counter_spent, row}
+use Rattle.node_rules.specs.declared.acts.Act.TheVariants.{RecoverOne as recover_one, Send as send}
+use Rattle.node_rules.specs.Acts.{ProcFault, first_refusal, refused}
+use Rattle.node_rules.specs.declared.commands.Row.{Row}
+use Rattle.node_rules.specs.CommandTable.{is_counter_spent, row}
 use Rattle.node_rules.specs.Drafts.{draft}
 use Rattle.node_rules.specs.MasterEnds.{is_release_spent}
 use Rattle.node_rules.specs.MasterGo.{begins_if}
-use Rattle.node_rules.specs.MasterState.{MasterActs, MasterProc, has_bearer, recovering}
+use Rattle.node_rules.specs.declared.commands.Command.TheVariants.{Recovering as recovering}
+use Rattle.node_rules.specs.MasterState.{MasterActs, MasterProc, has_bearer}
 
 -- the table has no secondary node
 abbrev pub is_alone : MasterProc → Bool

@@ -8,11 +8,15 @@ use Rattle.dc_base.specs.declared.nodes.Node.TheVariants.{A, B, M, T}
 use Rattle.dc_base.specs.declared.records.Plan.{Plan}
 use Rattle.dc_base.specs.declared.records.Rec.{Rec}
 use Rattle.dc_base.specs.declared.records.Rec.TheVariants as rec
-use Rattle.node_rules.specs.Acts.{Act, say, send}
+use Rattle.node_rules.specs.declared.acts.Act.{Act}
+use Rattle.node_rules.specs.declared.acts.Act.TheVariants.{Say as say, Send as send}
 use Rattle.node_rules.specs.CommandTable.{Table, is_spent_by}
 use Rattle.node_rules.specs.Drafts.{Draft, draft}
 use Rattle.node_rules.specs.MasterGo.{before_acts, lets_go}
-use Rattle.node_rules.specs.MasterState.{Command, Going, MasterActs, MasterProc, asked, gone, recovering, waits_at, with_waits}
+use Rattle.node_rules.specs.declared.commands.Command.{Command}
+use Rattle.node_rules.specs.declared.commands.Going.{Going}
+use Rattle.node_rules.specs.declared.commands.Command.TheVariants.{Asked as asked, Gone as gone, Recovering as recovering}
+use Rattle.node_rules.specs.MasterState.{MasterActs, MasterProc, waits_at, with_waits}
 use Rattle.node_rules.specs.Places.{is_at, other_second}
 
 -- the answer to a node that asked for its release and is not the secondary node any more

@@ -13,11 +13,19 @@ use Rattle.dc_base.specs.declared.records.Rec.{Rec}
 use Rattle.dc_base.specs.declared.records.Rec.TheVariants as rec
 use Rattle.key_chain.specs.KeyNames.{octets}
 use Rattle.transcript.specs.Bearers.{roots}
-use Rattle.node_rules.specs.Acts.{Act, go, prepare, say, send}
-use Rattle.node_rules.specs.CommandTable.{Change, carried, master_key_of}
-use Rattle.node_rules.specs.Drafts.{Draft, First, addition, modification, release}
-use Rattle.node_rules.specs.MasterState.{MasterActs, MasterProc, asked, gone}
+use Rattle.node_rules.specs.declared.acts.Act.{Act}
+use Rattle.node_rules.specs.declared.acts.Act.TheVariants.{Go as go, Prepare as prepare, Say as say, Send as send}
+use Rattle.node_rules.specs.declared.commands.Change.{Change}
+use Rattle.node_rules.specs.CommandTable.{carried, master_key_of}
+use Rattle.node_rules.specs.declared.commands.First.{First}
+use Rattle.node_rules.specs.declared.commands.First.TheVariants.{Addition as addition, Modification as modification, Release as release}
+use Rattle.node_rules.specs.Drafts.{Draft}
+use Rattle.node_rules.specs.declared.commands.Command.TheVariants.{Asked as asked, Gone as gone}
+use Rattle.node_rules.specs.MasterState.{MasterActs, MasterProc}
 use Rattle.node_rules.specs.Places.{anchor_at}
+use Rattle.node_rules.specs.declared.commands.Way.{Way}
+use Rattle.node_rules.specs.declared.commands.Leaving.{Leaving}
+use Rattle.node_rules.specs.declared.commands.Leaving.TheVariants.{ByRequest as by_request, ByChangeConfirm as by_change_confirm, ByReleaseConfirm as by_release_confirm}
 
 -- a bearer of the plan that moves to another node, with its new anchor
 abbrev pub moving_of : Option Node → Item → List (ℕ × Node)
@@ -37,20 +45,6 @@ moves_here p = list_any (λ (x : ℕ × Node). is_same_node M x.1) (moving_by p)
 -- the waiting anchors that the master makes where a command begins
 abbrev pub preparing : Plan → List Act
 preparing p = if moves_here p then prepare p ∷ [] else []
-
--- the record by which a secondary node that leaves hears of it
-pub data Leaving : Type 0 where
-  by_request : Leaving
-  by_change_confirm : Leaving
-  by_release_confirm : Leaving
-
--- whom a plan concerns besides the terminal, once it is carried out: who is to hear that it is complete, and whether as a
--- confirm; who leaves; and how that one hears of it, unless it was asked itself
-pub record Way : Type 0 where
-  pub due : Option Node
-  pub confirms : Bool
-  pub leaving : Option Node
-  pub told : Option Leaving
 
 -- of a plan that concerns the master and the terminal alone
 abbrev pub alone : Way

@@ -16,18 +16,24 @@ use Rattle.dc_base.specs.declared.records.Plan.{Plan}
 use Rattle.dc_base.specs.declared.records.Rec.TheVariants as rec
 use Rattle.key_chain.specs.KeyNames.{octets}
 use Rattle.transcript.specs.Bearers.{roots}
-use Rattle.node_rules.specs.Acts.{Act, fail_one, go, pass, prepare, recover_one, say, send, unlock_all}
+use Rattle.node_rules.specs.declared.acts.Act.{Act}
+use Rattle.node_rules.specs.declared.acts.Act.TheVariants.{FailOne as fail_one, Go as go, Pass as pass, Prepare as prepare, RecoverOne as recover_one, Say as say, Send as send, UnlockAll as unlock_all}
 use Rattle.node_rules.specs.Adopting.{status_in}
-use Rattle.node_rules.specs.Anchor.{AnchorOut, AnchorState, active_anchor, fresh, renew, setup_at, waiting, waiting_anchor}
+use Rattle.node_rules.specs.declared.bearers.AnchorOut.{AnchorOut}
+use Rattle.node_rules.specs.Anchor.{AnchorState, active_anchor, fresh, renew, setup_at, waiting, waiting_anchor}
 use Rattle.node_rules.specs.AnchorSending.{fail_scg, recover, unlock}
 use Rattle.node_rules.specs.Choices.{Choices}
-use Rattle.node_rules.specs.Effects.{Effects, after_effects, both, in_turn, noted, quiet, sent, told}
+use Rattle.node_rules.specs.declared.inputs.Effects.{Effects}
+use Rattle.node_rules.specs.Effects.{after_effects, both, in_turn, noted, quiet, sent, told}
 use Rattle.node_rules.specs.Freezing.{freeze}
 use Rattle.node_rules.specs.Held.{held, holding, identities}
-use Rattle.node_rules.specs.Master.{MasterNode, Window, anchor_did, on_anchor, on_anchor_of, without_waiting}
+use Rattle.node_rules.specs.declared.bearers.Window.{Window}
+use Rattle.node_rules.specs.Master.{MasterNode, anchor_did, on_anchor, on_anchor_of, without_waiting}
 use Rattle.node_rules.specs.MasterState.{MasterActs}
 use Rattle.node_rules.specs.MasterTaking.{master_adopted}
-use Rattle.node_rules.specs.Parts.{Part, awaits, drops, establishes, hands_over, has_no_anchor, host_at, item_key, part_at, renews}
+use Rattle.node_rules.specs.declared.parts.Part.{Part}
+use Rattle.node_rules.specs.declared.parts.Part.TheVariants.{Awaits as awaits, Drops as drops, Establishes as establishes, HandsOver as hands_over, HasNoAnchor as has_no_anchor, Renews as renews}
+use Rattle.node_rules.specs.Parts.{host_at, item_key, part_at}
 use Rattle.node_rules.specs.Places.{anchor_at}
 use Rattle.node_rules.specs.Setup.{Setup, setup_of}
 

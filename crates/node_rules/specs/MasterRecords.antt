@@ -17,12 +17,21 @@ use Rattle.dc_base.specs.declared.records.Rec.TheVariants as rec
 use Rattle.dc_base.specs.declared.records.RecKind.{RecKind}
 use Rattle.dc_base.specs.declared.records.RecKind.TheVariants as kind
 use Rattle.dc_base.specs.declared.records.StatusTransfer.{StatusTransfer}
-use Rattle.node_rules.specs.Acts.{Act, ProcFault, fail_one, pass, say, send, unexpected, unlock_all}
-use Rattle.node_rules.specs.CommandTable.{Change, Row, is_counter_spent, row}
-use Rattle.node_rules.specs.Drafts.{First, addition, draft, modification, release}
+use Rattle.node_rules.specs.declared.acts.Act.{Act}
+use Rattle.node_rules.specs.declared.acts.Act.TheVariants.{FailOne as fail_one, Pass as pass, Say as say, Send as send, UnlockAll as unlock_all}
+use Rattle.node_rules.specs.Acts.{ProcFault, unexpected}
+use Rattle.node_rules.specs.declared.commands.Change.{Change}
+use Rattle.node_rules.specs.declared.commands.Row.{Row}
+use Rattle.node_rules.specs.CommandTable.{is_counter_spent, row}
+use Rattle.node_rules.specs.declared.commands.First.{First}
+use Rattle.node_rules.specs.declared.commands.First.TheVariants.{Addition as addition, Modification as modification, Release as release}
+use Rattle.node_rules.specs.Drafts.{draft}
 use Rattle.node_rules.specs.MasterEnds.{ends, tries, waits_for}
 use Rattle.node_rules.specs.MasterGo.{before_acts, begins_if, goes, way}
-use Rattle.node_rules.specs.MasterState.{Command, Going, MasterActs, MasterProc, asked, gone, recovering, with_waits}
+use Rattle.node_rules.specs.declared.commands.Command.{Command}
+use Rattle.node_rules.specs.declared.commands.Going.{Going}
+use Rattle.node_rules.specs.declared.commands.Command.TheVariants.{Asked as asked, Gone as gone, Recovering as recovering}
+use Rattle.node_rules.specs.MasterState.{MasterActs, MasterProc, with_waits}
 use Rattle.node_rules.specs.Places.{is_at, other_second}
 
 -- a record that has no row in the state

@@ -7,26 +7,13 @@ use Rattle.dc_base.specs.declared.records.Item.{Item}
 use Rattle.dc_base.specs.declared.records.Item.TheVariants as item
 use Rattle.dc_base.specs.declared.records.Plan.{Plan}
 use Rattle.transcript.specs.Bearers.{change}
-use Rattle.node_rules.specs.Acts.{Act}
-use Rattle.node_rules.specs.CommandTable.{Change, Table, new_table, row}
-use Rattle.node_rules.specs.Drafts.{First}
-
--- a command that is carried out: whether the terminal answered; the secondary node that is to hear of that, and whether as
--- the confirm of what it asked for; the secondary node that leaves; and the bearers that move, each with its new anchor, as
--- long as that has not adopted it
-pub record Going : Type 0 where
-  pub complete : Bool
-  pub due : Option Node
-  pub confirms : Bool
-  pub leaving : Option Node
-  pub moving : List (ℕ × Node)
-
--- the command that is open: the first record was sent to a node, which has not answered (`wanted`: a secondary node asked for
--- the command); it is carried out; or a bearer recovers, and the terminal and maybe a secondary node still have to say so
-pub data Command : Type 0 where
-  asked : (change : Change) → (first : First) → (who : Node) → (wanted : Bool) → Command
-  gone : (plan : Plan) → (going : Going) → Command
-  recovering : (id : ℕ) → (terminal : Bool) → (second : Option Node) → Command
+use Rattle.node_rules.specs.declared.acts.Act.{Act}
+use Rattle.node_rules.specs.declared.commands.Change.{Change}
+use Rattle.node_rules.specs.CommandTable.{Table, new_table, row}
+use Rattle.node_rules.specs.declared.commands.First.{First}
+use Rattle.node_rules.specs.declared.commands.Going.{Going}
+use Rattle.node_rules.specs.declared.commands.Command.{Command}
+use Rattle.node_rules.specs.declared.commands.Command.TheVariants.{Asked as asked, Gone as gone, Recovering as recovering}
 
 -- `a_waits`, `b_waits`: that node asked for its release, and has no answer
 pub record MasterProc : Type 0 where

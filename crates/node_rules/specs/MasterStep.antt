@@ -14,17 +14,24 @@ use Rattle.dc_base.specs.declared.nodes.Class.TheVariants.{Air, Ctl, Feed, Tun}
 use Rattle.dc_base.specs.declared.nodes.Node.{Node}
 use Rattle.dc_base.specs.declared.nodes.Node.TheVariants.{A, B, M, T}
 use Rattle.node_rules.specs.Acts.{ProcFault, first_refusal, refused, unexpected}
-use Rattle.node_rules.specs.Anchor.{AnchorOut, AnchorState, setup_at}
+use Rattle.node_rules.specs.declared.bearers.AnchorOut.{AnchorOut}
+use Rattle.node_rules.specs.Anchor.{AnchorState, setup_at}
 use Rattle.node_rules.specs.AnchorReceiving.{air_in, tunnel_in}
 use Rattle.node_rules.specs.AnchorSending.{report, submit}
-use Rattle.node_rules.specs.Choices.{Choices, Cmd, Come, Input, Outcome, Send}
-use Rattle.node_rules.specs.CommandTable.{Row, row}
-use Rattle.node_rules.specs.Effects.{Effects, accepted, in_turn, quiet, sent, turned_down, unless}
+use Rattle.node_rules.specs.declared.inputs.Input.{Input}
+use Rattle.node_rules.specs.declared.inputs.Outcome.{Outcome}
+use Rattle.node_rules.specs.declared.inputs.Input.TheVariants.{Cmd, Come}
+use Rattle.node_rules.specs.Choices.{Choices, Send}
+use Rattle.node_rules.specs.declared.commands.Row.{Row}
+use Rattle.node_rules.specs.CommandTable.{row}
+use Rattle.node_rules.specs.declared.inputs.Effects.{Effects}
+use Rattle.node_rules.specs.Effects.{accepted, in_turn, quiet, sent, turned_down, unless}
 use Rattle.node_rules.specs.Flights.{Named, flight_named}
 use Rattle.node_rules.specs.Held.{held, holding}
 use Rattle.node_rules.specs.Host.{Host}
 use Rattle.node_rules.specs.HostRules.{host_air_in, host_tunnel_in}
-use Rattle.node_rules.specs.Master.{MasterNode, Window, on_anchor, told_by}
+use Rattle.node_rules.specs.declared.bearers.Window.{Window}
+use Rattle.node_rules.specs.Master.{MasterNode, on_anchor, told_by}
 use Rattle.node_rules.specs.MasterCommands.{master_command}
 use Rattle.node_rules.specs.MasterPlan.{does, master_did, on_waiting}
 use Rattle.node_rules.specs.MasterState.{MasterActs, has_bearer, is_unsettled}

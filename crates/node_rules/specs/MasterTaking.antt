@@ -8,10 +8,12 @@ use Rattle.dc_base.specs.declared.records.Rec.{Rec}
 use Rattle.dc_base.specs.declared.records.Rec.TheVariants as rec
 use Rattle.dc_base.specs.declared.records.RecKind.TheVariants as kind
 use Rattle.node_rules.specs.Acts.{ProcFault}
-use Rattle.node_rules.specs.Drafts.{addition, modification, release}
+use Rattle.node_rules.specs.declared.commands.First.TheVariants.{Addition as addition, Modification as modification, Release as release}
 use Rattle.node_rules.specs.MasterEnds.{waits_for}
 use Rattle.node_rules.specs.MasterRecords.{agreed, completed, failed_legs, is_moving, moved, no_row, recovered, rejected, released, transferred, wanted_by}
-use Rattle.node_rules.specs.MasterState.{Command, MasterActs, MasterProc, asked, gone, recovering}
+use Rattle.node_rules.specs.declared.commands.Command.{Command}
+use Rattle.node_rules.specs.declared.commands.Command.TheVariants.{Asked as asked, Gone as gone, Recovering as recovering}
+use Rattle.node_rules.specs.MasterState.{MasterActs, MasterProc}
 
 -- a record from a secondary node
 abbrev pub from_second : Node → MasterProc → Rec → Result MasterActs ProcFault

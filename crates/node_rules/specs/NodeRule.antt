@@ -1,6 +1,8 @@
 -- A node of any kind, and what it does with one input: from state to state, with the outcome.
 use Rattle.std.specs.Prelude.{List, [], ◌∷◌}
-use Rattle.node_rules.specs.Choices.{Choices, Input, Outcome}
+use Rattle.node_rules.specs.declared.inputs.Input.{Input}
+use Rattle.node_rules.specs.declared.inputs.Outcome.{Outcome}
+use Rattle.node_rules.specs.Choices.{Choices}
 use Rattle.node_rules.specs.Master.{MasterNode}
 use Rattle.node_rules.specs.MasterStep.{master_step}
 use Rattle.node_rules.specs.SecondStep.{second_step}

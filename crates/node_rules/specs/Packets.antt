@@ -1,17 +1,16 @@
 -- What a packet in a tunnel says to the node that takes it (TS 29.281, 5; TS 38.425, 5.5), and how each is written.
 use Rattle.std.specs.Prelude.{ℕ, zero, suc, Bool, true, false, List, [], ◌∷◌, Option, Some, None, Result, Ok, Err}
-use Rattle.std.specs.Option.{option_map}
 use Rattle.dc_base.specs.Tunnel.{teid, teid_gen, teid_id, teid_kind}
 use Rattle.dc_base.specs.declared.nodes.Dir.{Dir}
 use Rattle.dc_base.specs.declared.nodes.Dir.TheVariants.{Ul, Dl}
-use Rattle.forward.specs.Load.{Load, Piece, Total, Nothing, sn_of}
+use Rattle.forward.specs.Load.{Load}
+use Rattle.forward.specs.Reading.{load_in}
 use Rattle.gtpu.specs.Content.{Content}
 use Rattle.gtpu.specs.Decoded.{decoded}
 use Rattle.gtpu.specs.Spelling.{spelling}
 use Rattle.gtpu.specs.declared.faults.GtpErr.{GtpErr}
 use Rattle.gtpu.specs.declared.packet.GtpKind.{GtpKind}
 use Rattle.gtpu.specs.declared.packet.GtpKind.TheVariants.{GPdu, EndMarker, EchoRequest, EchoResponse, ErrorIndication}
-use Rattle.gtpu.specs.declared.packet.PduNumber.{PduNumber}
 use Rattle.nr_u.specs.Frames.{written}
 use Rattle.nr_u.specs.Reading.{decoded as frame_in}
 use Rattle.nr_u.specs.declared.frame.Frame.{Frame}
@@ -37,24 +36,6 @@ with_frame id g body (Ok (Status highest lost)) = delivery id g (Status highest 
 abbrev pub with_container : ℕ → ℕ → List ℕ → Option (List ℕ) → Packet
 with_container id g body None = pdu_up id g body
 with_container id g body (Some octets) = with_frame id g body (frame_in octets)
-
--- the number of all stands without a PDCP SN and without user data
-abbrev pub total_in : ℕ → Option PduNumber → List ℕ → Load
-total_in number None [] = Total number
-total_in number None (octet ∷ body) = Nothing
-total_in number (Some n) body = Nothing
-
--- what a frame says in a forwarding tunnel
-abbrev pub load_with : Content → Result Frame NruErr → Load
-load_with p (Err e) = Nothing
-load_with p (Ok (User number true repeat)) = Piece number (option_map sn_of p.number, p.body)
-load_with p (Ok (User number false repeat)) = total_in number p.number p.body
-load_with p (Ok (Status highest lost)) = Nothing
-
--- what a packet of a forwarding tunnel carries
-abbrev pub load_in : Content → Option (List ℕ) → Load
-load_in p None = Nothing
-load_in p (Some octets) = load_with p (frame_in octets)
 
 -- a G-PDU, by the kind of its TEID: 0 for the bearer's own traffic, 1 for downlink and 2 for uplink forwarding
 abbrev pub of_kind : Content → ℕ → Packet

@@ -8,16 +8,8 @@ use Rattle.dc_base.specs.declared.records.Item.TheVariants as item
 use Rattle.dc_base.specs.declared.records.Plan.{Plan}
 use Rattle.node_rules.specs.Host.{Host, new_host}
 use Rattle.node_rules.specs.Places.{anchor_at, is_host_at}
-
--- with the anchor: a new bearer begins here; the anchor stays here; it comes from another node; it goes to another node; the
--- bearer is dropped; or nothing of it is here
-pub data Part : Type 0 where
-  establishes : Part
-  renews : Part
-  awaits : Part
-  hands_over : (to : Node) → Part
-  drops : Part
-  has_no_anchor : Part
+use Rattle.node_rules.specs.declared.parts.Part.{Part}
+use Rattle.node_rules.specs.declared.parts.Part.TheVariants.{Establishes as establishes, Renews as renews, Awaits as awaits, HandsOver as hands_over, Drops as drops, HasNoAnchor as has_no_anchor}
 
 -- by whether the anchor is here before and after
 abbrev pub moved_part : Node → Bool → Bool → Part

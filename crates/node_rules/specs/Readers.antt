@@ -6,18 +6,14 @@ use Rattle.dc_base.specs.Count.{window}
 use Rattle.dc_base.specs.declared.numbers.SnLen.{SnLen}
 use Rattle.node_rules.specs.Anchor.{Active, AnchorState}
 use Rattle.node_rules.specs.Entity.{Entity}
-use Rattle.node_rules.specs.Flights.{Weight, data_pdu_of, delivery_of, weightless}
+use Rattle.node_rules.specs.declared.bearers.Weight.{Weight}
+use Rattle.node_rules.specs.declared.bearers.Weight.TheVariants.{DataPduOf as data_pdu_of, DeliveryOf as delivery_of, Weightless as weightless}
 use Rattle.node_rules.specs.Held.{held}
 use Rattle.node_rules.specs.Master.{MasterNode}
 use Rattle.node_rules.specs.MasterState.{has_bearer}
 use Rattle.node_rules.specs.NodeRule.{NodeState, master_node, second_node, terminal_node}
 use Rattle.node_rules.specs.Secondary.{active_at, active_in}
-
--- an SN length, RX_DELIV and Low
-pub record Edges : Type 0 where
-  pub n : SnLen
-  pub deliv : ℕ
-  pub low : ℕ
+use Rattle.node_rules.specs.declared.bearers.Edges.{Edges}
 
 -- those of a PDCP entity
 abbrev pub entity_edges : Entity → Edges

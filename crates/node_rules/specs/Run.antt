@@ -15,8 +15,12 @@ use Rattle.dc_base.specs.declared.nodes.Node.{Node}
 use Rattle.dc_base.specs.declared.nodes.Node.TheVariants.{A, B, M, T}
 use Rattle.transcript.specs.Content.{place_taken}
 use Rattle.transcript.specs.Transcript.{Entry}
-use Rattle.node_rules.specs.Choices.{Choices, Cmd, Come, Input, Outcome}
-use Rattle.node_rules.specs.Effects.{Effects, accepted, quiet, sent, turned_down}
+use Rattle.node_rules.specs.declared.inputs.Input.{Input}
+use Rattle.node_rules.specs.declared.inputs.Outcome.{Outcome}
+use Rattle.node_rules.specs.declared.inputs.Input.TheVariants.{Cmd, Come}
+use Rattle.node_rules.specs.Choices.{Choices}
+use Rattle.node_rules.specs.declared.inputs.Effects.{Effects}
+use Rattle.node_rules.specs.Effects.{accepted, quiet, sent, turned_down}
 use Rattle.node_rules.specs.Flights.{weight}
 use Rattle.node_rules.specs.Lines.{lines_of}
 use Rattle.node_rules.specs.MasterStep.{master_step}
@@ -24,7 +28,7 @@ use Rattle.node_rules.specs.NodeRule.{NodeState, master_node, second_node, termi
 use Rattle.node_rules.specs.Readers.{is_aged_for}
 use Rattle.node_rules.specs.SecondStep.{second_step}
 use Rattle.node_rules.specs.Terminal.{terminal_step}
-use Rattle.node_rules.specs.World.{World, flights_on, standing_after}
+use Rattle.node_rules.specs.World.{World, flights_on, links_after}
 
 -- ---- what an event comes to
 
@@ -84,9 +88,9 @@ happening w (event.Deny node on) = given_to node (Cmd (event.Deny node on))
 happening w (event.Ask node what) = given_to node (Cmd (event.Ask node what))
 happening w event.ScgFail = given_to T (Cmd event.ScgFail)
 happening w (event.Submit id d payload) = given_to (submitter d) (Cmd (event.Submit id d payload))
-happening w (event.Step l i) = step_of w l i (slice_get (flights_on l w.standing) i)
-happening w (event.Lose l i) = in_tunnel l.class (loss_of (slice_get (flights_on l w.standing) i))
-happening w (event.Again l i) = in_tunnel l.class (copy_of l (slice_get (flights_on l w.standing) i))
+happening w (event.Step l i) = step_of w l i (slice_get (flights_on l w.links) i)
+happening w (event.Lose l i) = in_tunnel l.class (loss_of (slice_get (flights_on l w.links) i))
+happening w (event.Again l i) = in_tunnel l.class (copy_of l (slice_get (flights_on l w.links) i))
 
 -- ---- one event
 
@@ -111,7 +115,7 @@ entry_with e o = record { event = e; answer = o.answer; lines = lines_of o }
 abbrev pub moved_on : Event → World × Outcome → World × Entry
 moved_on e done =
     let x = entry_with e done.1 in
-    (record done.0 { standing = standing_after (place_taken e x.answer) x.lines done.0.standing }, x)
+    (record done.0 { links = links_after (place_taken e x.answer) x.lines done.0.links }, x)
 
 -- an event happens
 abbrev pub world_step : Choices → World → Event → World × Entry

@@ -10,15 +10,19 @@ use Rattle.dc_base.specs.declared.nodes.Node.TheVariants.{M}
 use Rattle.dc_base.specs.declared.records.Item.{Item}
 use Rattle.dc_base.specs.declared.records.Plan.{Plan}
 use Rattle.dc_base.specs.declared.records.Rec.TheVariants as rec
-use Rattle.node_rules.specs.Acts.{Act, fail_one, go, pass, prepare, recover_one, say, send, unlock_all}
+use Rattle.node_rules.specs.declared.acts.Act.{Act}
+use Rattle.node_rules.specs.declared.acts.Act.TheVariants.{FailOne as fail_one, Go as go, Pass as pass, Prepare as prepare, RecoverOne as recover_one, Say as say, Send as send, UnlockAll as unlock_all}
 use Rattle.node_rules.specs.Adopting.{status_in}
 use Rattle.node_rules.specs.Anchor.{Active, AnchorState, active_anchor, fresh, renew, waiting}
 use Rattle.node_rules.specs.AnchorSending.{fail_scg, recover, unlock}
 use Rattle.node_rules.specs.Choices.{Choices}
-use Rattle.node_rules.specs.Effects.{Effects, in_turn, noted, quiet, told}
+use Rattle.node_rules.specs.declared.inputs.Effects.{Effects}
+use Rattle.node_rules.specs.Effects.{in_turn, noted, quiet, told}
 use Rattle.node_rules.specs.Feed.{Fed, freeze_fed, frozen_of}
 use Rattle.node_rules.specs.Held.{held, holding, identities}
-use Rattle.node_rules.specs.Parts.{Part, awaits, drops, establishes, hands_over, has_no_anchor, host_at, part_at, renews}
+use Rattle.node_rules.specs.declared.parts.Part.{Part}
+use Rattle.node_rules.specs.declared.parts.Part.TheVariants.{Awaits as awaits, Drops as drops, Establishes as establishes, HandsOver as hands_over, HasNoAnchor as has_no_anchor, Renews as renews}
+use Rattle.node_rules.specs.Parts.{host_at, part_at}
 use Rattle.node_rules.specs.SecondState.{SecondActs}
 use Rattle.node_rules.specs.Secondary.{SecondNode, active_in, name_of, on_fed, on_fed_of, within}
 use Rattle.node_rules.specs.Setup.{Setup, setup_of}

@@ -13,8 +13,12 @@ use Rattle.dc_base.specs.declared.records.Rec.TheVariants as rec
 use Rattle.dc_base.specs.declared.records.RecKind.{RecKind}
 use Rattle.dc_base.specs.declared.records.RecKind.TheVariants as kind
 use Rattle.dc_base.specs.declared.records.StatusTransfer.{StatusTransfer}
-use Rattle.node_rules.specs.Acts.{Act, ProcFault, fail_one, go, pass, recover_one, say, send, unexpected, unlock_all}
-use Rattle.node_rules.specs.SecondState.{Membership, SecondActs, SecondProc, joined, left, outside}
+use Rattle.node_rules.specs.declared.acts.Act.{Act}
+use Rattle.node_rules.specs.declared.acts.Act.TheVariants.{FailOne as fail_one, Go as go, Pass as pass, RecoverOne as recover_one, Say as say, Send as send, UnlockAll as unlock_all}
+use Rattle.node_rules.specs.Acts.{ProcFault, unexpected}
+use Rattle.node_rules.specs.declared.commands.Membership.{Membership}
+use Rattle.node_rules.specs.declared.commands.Membership.TheVariants.{Joined as joined, Left as left, Outside as outside}
+use Rattle.node_rules.specs.SecondState.{SecondActs, SecondProc}
 
 -- a record that has no row in the state
 abbrev pub no_second_row : RecKind → Result SecondActs ProcFault

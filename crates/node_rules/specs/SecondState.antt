@@ -10,13 +10,11 @@ use Rattle.dc_base.specs.declared.nodes.Want.{Want}
 use Rattle.dc_base.specs.declared.nodes.Want.TheVariants as want
 use Rattle.dc_base.specs.declared.records.Rec.{Rec}
 use Rattle.dc_base.specs.declared.records.Rec.TheVariants as rec
-use Rattle.node_rules.specs.Acts.{Act, ProcFault, first_refusal, refused, send}
-
--- no context of the terminal; a context, as the secondary node that serves it; a context from which it was released
-pub data Membership : Type 0 where
-  outside : Membership
-  joined : Membership
-  left : Membership
+use Rattle.node_rules.specs.declared.acts.Act.{Act}
+use Rattle.node_rules.specs.declared.acts.Act.TheVariants.{Send as send}
+use Rattle.node_rules.specs.Acts.{ProcFault, first_refusal, refused}
+use Rattle.node_rules.specs.declared.commands.Membership.{Membership}
+use Rattle.node_rules.specs.declared.commands.Membership.TheVariants.{Outside as outside, Joined as joined, Left as left}
 
 -- the node; its membership; whether it rejects requests; what it asked the master for, until that is answered
 pub record SecondProc : Type 0 where

@@ -18,11 +18,16 @@ use Rattle.dc_base.specs.declared.records.Plan.{Plan}
 use Rattle.dc_base.specs.declared.records.Rec.{Rec}
 use Rattle.dc_base.specs.declared.records.Rec.TheVariants as rec
 use Rattle.node_rules.specs.Acts.{ProcFault, refused, unexpected}
-use Rattle.node_rules.specs.Anchor.{Active, AnchorOut, AnchorState}
+use Rattle.node_rules.specs.declared.bearers.AnchorOut.{AnchorOut}
+use Rattle.node_rules.specs.Anchor.{Active, AnchorState}
 use Rattle.node_rules.specs.AnchorReceiving.{air_in, tunnel_in}
 use Rattle.node_rules.specs.AnchorSending.{report}
-use Rattle.node_rules.specs.Choices.{Choices, Cmd, Come, Input, Outcome, Send}
-use Rattle.node_rules.specs.Effects.{Effects, accepted, quiet, turned_down}
+use Rattle.node_rules.specs.declared.inputs.Input.{Input}
+use Rattle.node_rules.specs.declared.inputs.Outcome.{Outcome}
+use Rattle.node_rules.specs.declared.inputs.Input.TheVariants.{Cmd, Come}
+use Rattle.node_rules.specs.Choices.{Choices, Send}
+use Rattle.node_rules.specs.declared.inputs.Effects.{Effects}
+use Rattle.node_rules.specs.Effects.{accepted, quiet, turned_down}
 use Rattle.node_rules.specs.Feed.{Fed, Frozen, end_in, frozen_end_in, frozen_sdu_in, sdu_in}
 use Rattle.node_rules.specs.Flights.{Named, flight_named}
 use Rattle.node_rules.specs.Held.{held, holding}

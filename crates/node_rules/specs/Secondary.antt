@@ -10,13 +10,17 @@ use Rattle.dc_base.specs.declared.nodes.Dir.TheVariants.{Ul}
 use Rattle.dc_base.specs.declared.nodes.Node.{Node}
 use Rattle.dc_base.specs.declared.nodes.Node.TheVariants.{M}
 use Rattle.dc_base.specs.declared.records.Rec.TheVariants as rec
-use Rattle.node_rules.specs.Anchor.{Active, AnchorOut, AnchorState, active_anchor, setup_at, waiting_anchor}
-use Rattle.node_rules.specs.Effects.{Effects, both, noted, quiet, sent, told}
+use Rattle.node_rules.specs.declared.bearers.AnchorOut.{AnchorOut}
+use Rattle.node_rules.specs.Anchor.{Active, AnchorState, active_anchor, setup_at, waiting_anchor}
+use Rattle.node_rules.specs.declared.inputs.Effects.{Effects}
+use Rattle.node_rules.specs.Effects.{both, noted, quiet, sent, told}
 use Rattle.node_rules.specs.Feed.{Fed, Frozen}
 use Rattle.node_rules.specs.Held.{held, holding}
 use Rattle.node_rules.specs.Host.{Host}
 use Rattle.node_rules.specs.Master.{handed_up}
-use Rattle.node_rules.specs.SecondState.{Membership, SecondProc, joined, left, new_second_proc, outside}
+use Rattle.node_rules.specs.declared.commands.Membership.{Membership}
+use Rattle.node_rules.specs.declared.commands.Membership.TheVariants.{Joined as joined, Left as left, Outside as outside}
+use Rattle.node_rules.specs.SecondState.{SecondProc, new_second_proc}
 
 -- a secondary node: the ciphering algorithm, the procedures, and by identities the anchors, what is frozen and the leg hosts
 pub record SecondNode : Type 0 where

@@ -13,17 +13,11 @@ use Rattle.split_leg.specs.declared.legs.Route.{Route}
 use Rattle.split_leg.specs.declared.legs.Route.TheVariants as route
 use Rattle.node_rules.specs.Choices.{Choices}
 use Rattle.node_rules.specs.Entity.{Entity, pdu_of}
+use Rattle.node_rules.specs.declared.bearers.OnLeg.{OnLeg}
 
 -- a PDU to be sent: its octets, with its COUNT if it is a data PDU
 abbrev pub Pdu : Type 0
 Pdu = Option ℕ × List ℕ
-
--- a PDU that was put on a leg: its number there, and whether an earlier send put a PDU of its COUNT on a leg
-pub record OnLeg : Type 0 where
-  pub cell : Cell
-  pub num : ℕ
-  pub repeat : Bool
-  pub pdu : Pdu
 
 -- a PDU is put on a leg, under the next number there
 abbrev pub put_on : Cell → Bool → Pdu → LegsState → LegsState × OnLeg

@@ -23,13 +23,18 @@ use Rattle.dc_base.specs.declared.records.Plan.{Plan}
 use Rattle.dc_base.specs.declared.records.Rec.{Rec}
 use Rattle.dc_base.specs.declared.records.Rec.TheVariants as rec
 use Rattle.key_chain.specs.KeyNames.{octets_of_side}
-use Rattle.node_rules.specs.Choices.{Choices, Cmd, Come, Input, Outcome, Send}
-use Rattle.node_rules.specs.Effects.{Effects, accepted, after_effects, in_turn, noted, quiet, told, turned_down}
+use Rattle.node_rules.specs.declared.inputs.Input.{Input}
+use Rattle.node_rules.specs.declared.inputs.Outcome.{Outcome}
+use Rattle.node_rules.specs.declared.inputs.Input.TheVariants.{Cmd, Come}
+use Rattle.node_rules.specs.Choices.{Choices, Send}
+use Rattle.node_rules.specs.declared.inputs.Effects.{Effects}
+use Rattle.node_rules.specs.Effects.{accepted, after_effects, in_turn, noted, quiet, told, turned_down}
 use Rattle.node_rules.specs.Flights.{Named, flight_named}
 use Rattle.node_rules.specs.Held.{held, holding}
 use Rattle.node_rules.specs.Master.{handed_up}
 use Rattle.node_rules.specs.Setup.{Setup, setup_of}
-use Rattle.node_rules.specs.TerminalHalf.{HalfOut, TerminalHalf, has_live_scg, terminal_air_in, terminal_fail, terminal_new, terminal_recover, terminal_renew, terminal_report, terminal_submit}
+use Rattle.node_rules.specs.declared.bearers.HalfOut.{HalfOut}
+use Rattle.node_rules.specs.TerminalHalf.{TerminalHalf, has_live_scg, terminal_air_in, terminal_fail, terminal_new, terminal_recover, terminal_renew, terminal_report, terminal_submit}
 
 -- the secondary node of the last plan taken, and the bearers
 pub record TerminalNode : Type 0 where

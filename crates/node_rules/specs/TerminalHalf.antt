@@ -21,18 +21,14 @@ use Rattle.split_leg.specs.Legs.{leg_at, with_ack, with_leg}
 use Rattle.dc_base.specs.Links.{link}
 use Rattle.node_rules.specs.Choices.{Choices, Send}
 use Rattle.node_rules.specs.Entity.{Entity, new_entity, renewed, risen_low, take_pdu}
-use Rattle.node_rules.specs.Sending.{OnLeg, send_counts, send_kept, send_report}
+use Rattle.node_rules.specs.declared.bearers.OnLeg.{OnLeg}
+use Rattle.node_rules.specs.Sending.{send_counts, send_kept, send_report}
 use Rattle.node_rules.specs.Setup.{Setup, cell_of, has_cell, has_failed, has_leg_at, is_of, node_of, with_failed_scg}
+use Rattle.node_rules.specs.declared.bearers.HalfOut.{HalfOut}
 
 -- the terminal's half of a bearer is its PDCP entity
 abbrev pub TerminalHalf : Type 0
 TerminalHalf = Entity
-
--- what comes of a step: the SDUs handed up with their COUNTs, Low where it rose, and the sends
-pub record HalfOut : Type 0 where
-  pub ups : List (ℕ × List ℕ)
-  pub low : Option ℕ
-  pub sends : List Send
 
 -- only sends come of it
 abbrev pub sending : List Send → HalfOut
