@@ -1,0 +1,7 @@
+-- What several proofs share.
+mod Ciphering
+mod Payloads
+mod Repeats
+mod Sends
+mod Confirmed
+mod Receiving
