@@ -1,0 +1,5 @@
+-- how the procedures' answers tell the rules'
+pub mod Faults
+-- parts of the rules' steps
+pub mod Asking
+pub mod Passing
