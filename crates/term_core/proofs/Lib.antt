@@ -1,0 +1,4 @@
+-- what the answers share
+pub mod Halves
+pub mod Steps
+pub mod Readings
