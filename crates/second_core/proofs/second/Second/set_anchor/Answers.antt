@@ -1,0 +1,5 @@
+use Rattle.std.proofs.Common.{refl}
+use Rattle.second_core.proofs.second.Second.set_anchor.Goals as goal
+
+pub returns-in_ok-insert-in-Some : goal.returns-in_ok-insert-in-Some
+returns-in_ok-insert-in-Some c = rw (← c.self.view_is, c.in_ok-insert-in-Some.ensures.entries, c.in-Some.is) refl
