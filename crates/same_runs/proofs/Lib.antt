@@ -1,0 +1,24 @@
+-- from the parts of the two states up to the two runs
+pub mod Holding
+pub mod Sending
+pub mod Lining
+pub mod Ciphering
+pub mod Legs
+pub mod Halves
+pub mod Upwards
+pub mod Configuring
+pub mod Downwards
+pub mod Bearers
+pub mod Submitting
+pub mod Serving
+pub mod Recovering
+pub mod SettingUp
+pub mod Completing
+pub mod Confirming
+pub mod Arriving
+pub mod Sounds
+pub mod Lifting
+pub mod Stepping
+pub mod Events
+pub mod Contents
+pub mod Runs
