@@ -78,10 +78,12 @@ is_not_after [] ys = true
 is_not_after (x ∷ xs) [] = false
 is_not_after (x ∷ xs) (y ∷ ys) = nat_lt x y || ((x == y) && is_not_after xs ys)
 
--- a line ends a command: after it the lines of another begin
+-- a line ends a command, or answers a waiting request for release of which nothing is left to release: after it the lines of
+-- another command begin
 abbrev pub ends_row : Line → Bool
 ends_row (line.Note note.Done) = true
 ends_row (line.Note note.Rejected) = true
+ends_row (line.Send l (flight.Ctl (rec.Relcnf plan))) = plan.g == 0
 ends_row _ = false
 
 -- the last line of an event so far

@@ -1,10 +1,10 @@
-//! `dc`: NR-NR dual connectivity, run from a script. It makes the real source and sinks, calls the top call and ends with
-//! its status.
+//! `dc`: NR-NR dual connectivity, run from a script. It makes the real source and sinks and the shipped routing policies,
+//! calls the top call and ends with its status.
 #![tactic(auto)]
 
-use dc_base::Status;
+use dc_base::{Memory, Status};
 use dc_outside::{StdSink, StdSource};
-use dc_top::{run_command, write_fault};
+use dc_top::{run_command, shipped_policies, write_fault};
 use std::alloc::AllocError;
 use std::io::ErrorKind;
 use std::process::ExitCode;
@@ -34,15 +34,20 @@ fn status_of(error: &io::Error) -> Status {
 fn main(rt: HostRuntime) -> ExitCode {
     let alloc = rt.alloc();
     let mut err = StdSink::new(rt.stderr());
-    let status = match words(&rt) {
-        Ok(words) => {
+    let status = match (words(&rt), shipped_policies!(alloc)) {
+        (Ok(words), Ok(policies)) => {
             let mut src = StdSource::new(rt.reader());
             let mut out = StdSink::new(rt.stdout());
-            run_command(alloc, words.as_slice(), &mut src, &mut out, &mut err)
+            let words = words.as_slice();
+            run_command(alloc, words, &mut src, &mut out, &mut err, &policies)
         }
-        Err(status) => {
+        (Err(status), _) => {
             write_fault(alloc, status, &mut err);
             status
+        }
+        (_, Err(Memory)) => {
+            write_fault(alloc, Status::Memory, &mut err);
+            Status::Memory
         }
     };
     ExitCode::from(status.number())

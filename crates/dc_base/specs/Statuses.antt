@@ -12,4 +12,3 @@ status_number status.ReadFault = 3
 status_number status.WriteFault = 4
 status_number status.Memory = 5
 status_number status.TooLong = 6
-status_number status.NotBuilt = 7

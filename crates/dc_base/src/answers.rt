@@ -72,8 +72,6 @@ pub enum Status {
     Memory,
     /// A limit was passed.
     TooLong,
-    /// The next event is one that the program does not take yet.
-    NotBuilt,
 }
 
 impl Status {
@@ -91,7 +89,6 @@ impl Status {
             Status::WriteFault => 4,
             Status::Memory => 5,
             Status::TooLong => 6,
-            Status::NotBuilt => 7,
         }
     }
 }

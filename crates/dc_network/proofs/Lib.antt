@@ -1,2 +1,5 @@
 pub mod Splitting
 pub mod Ordering
+pub mod Counted
+pub mod Keeping
+pub mod Moves

@@ -1,5 +1,5 @@
 -- What is written in turn, and what is left of it for later turns.
-use Rattle.std.proofs.Common.{◌≡◌, ◌++◌, ◌∷◌, ◌==◌, ◌<◌, ◌≤◌, ◌+◌, ◌&&◌, [], arith, Bool, List, ap, append_assoc, false, get_or, inl, inr, length, not, refl, suc, sym, take, true, zero, ◌∙◌, ℕ}
+use Rattle.std.proofs.Common.{◌≡◌, ◌++◌, ◌∷◌, ◌==◌, ◌<◌, ◌+◌, ◌&&◌, [], arith, Bool, List, ap, append_assoc, false, get_or, inl, inr, length, not, refl, suc, sym, take, true, zero, ◌∙◌, ℕ}
 use Rattle.std.specs.Prelude.{filter, map}
 use Rattle.std.specs.List.{flat_map}
 use Rattle.std.proofs.lemmas.Bool.{cases_Bool, eqb-true, not-true}

@@ -1,5 +1,5 @@
 -- The lines of octets, each of which LF ends; the last may have none.
-use Rattle.std.specs.Prelude.{◌≡◌, ◌≢◌, ℕ, ◌-◌, ◌==◌, Bool, List, [], length, slice_index, EachIndex, ⊤, None, Some, Option}
+use Rattle.std.specs.Prelude.{◌≡◌, ◌≢◌, ℕ, ◌+◌, ◌-◌, ◌≤◌, ◌==◌, if◌then◌else◌, Bool, List, [], length, slice_index, EachIndex, ⊤, None, Some, Option}
 use Rattle.std.specs.List.{after_first, before_first}
 use Rattle.std.specs.Io.KnownBytes.{Consumes, prepend_known}
 
@@ -23,10 +23,16 @@ rest_of octets = after_first is_line_feed octets
 abbrev pub span : List ℕ → ℕ
 span octets = length octets - length (rest_of octets)
 
--- a reader of lines: what it took from its source and did not hand out yet, and how many octets its lines took so far
+-- how many octets a line takes: with its LF, but where the input ended without one
+abbrev pub taken_by : List ℕ → Bool → ℕ
+taken_by line ended = length line + (if ended then 0 else 1)
+
+-- a reader of lines: what it took from its source and did not hand out yet, how many octets its lines took so far, and
+-- whether a read found the source at its end
 pub record Reader : Type 0 where
   pub held : List ℕ
   pub passed : ℕ
+  pub ended : Bool
 
 -- the octets that the lines to come are made of, where the source tells what it has left
 abbrev pub input : Reader → Option (List ℕ) → Option (List ℕ)
@@ -37,6 +43,6 @@ abbrev pub GivesLine : Option (List ℕ) → Option (List ℕ) → List ℕ → 
 GivesLine None new line = ⊤
 GivesLine (Some octets) new line = (octets ≢ []) × (line ≡ line_of octets) × (new ≡ Some (rest_of octets))
 
--- all that was taken from the input is the beginning of a line whose LF did not come
+-- all that was taken from the input is the beginning of a line whose LF did not come, which is not too long
 abbrev pub IsCutOff : Option (List ℕ) → Option (List ℕ) → Type 0
-IsCutOff old left = (part : List ℕ) × Consumes old left part × HasNoLineFeed part
+IsCutOff old left = (part : List ℕ) × Consumes old left part × HasNoLineFeed part × (length part ≤ 20000)

@@ -1,9 +1,9 @@
 //! The lines of a source, however its reads cut them.
-ghost use Rattle.std.specs.Prelude.{◌≡◌, ℕ, ◌+◌, ◌-◌, ◌<◌, ◌≤◌, ◌⊎◌, [], ◌++◌, length, take, vec_len, IfErr, IfNone, IfOk, IfSome, IsErrOf, MatchBool, OnErr, OnOk};
+ghost use Rattle.std.specs.Prelude.{◌≡◌, ℕ, ◌+◌, ◌-◌, ◌<◌, ◌≤◌, ◌⊎◌, [], ◌++◌, false, length, take, true, vec_len, IfErr, IfNone, IfOk, IfSome, IsErrOf, MatchBool, None, Ok, OnErr, OnOk};
 ghost use Rattle.std.specs.List.{position, position_or_len};
 ghost use Rattle.std.specs.Io.KnownBytes.{Consumes, IsAtEnd, Keeps};
 ghost use Rattle.dc_outside.specs.Faults.{Rose};
-ghost use Rattle.dc_text.specs.Lines.{GivesLine, HasNoLineFeed, IsCutOff, input, is_line_feed, line_of, rest_of, span};
+ghost use Rattle.dc_text.specs.Lines.{GivesLine, HasNoLineFeed, IsCutOff, input, is_line_feed, line_of, rest_of, span, taken_by};
 
 use dc_base::Octets;
 use dc_outside::Source;
@@ -37,8 +37,8 @@ pub enum LineErr {
     Memory,
 }
 
-/// Reads the lines of a source one after another. It reads at most 65,536 octets at a time, and only where it holds
-/// none that are not handed out.
+/// Reads the lines of a source one after another. It reads at most 65,536 octets at a time, only where it holds none that
+/// are not handed out, and no more once a read found the end.
 #[derive(Drop)]
 pub struct LineReader {
     alloc: Global,
@@ -46,16 +46,17 @@ pub struct LineReader {
     start: usize,
     end: usize,
     passed: usize,
+    ended: bool,
 }
 
-/// Contracts see what the reader holds, and how many octets the lines that it handed out took.
+/// Contracts see what the reader holds, how many octets the lines that it handed out took, and whether it found the end.
 impl Model for LineReader {
     ghost use Rattle.std.specs.Prelude.{◌≤◌, slice_range, vec_len};
     ghost use Rattle.dc_text.specs.Lines.{Reader};
 
     ghost Value = { Reader };
 
-    ghost view = { λ r. record { held = slice_range r.buffer.items r.start r.end; passed = r.passed } };
+    ghost view = { λ r. record { held = slice_range r.buffer.items r.start r.end; passed = r.passed; ended = r.ended } };
 
     ghost invariant = { λ r. (r.start ≤ r.end) × (r.end ≤ vec_len r.buffer) × (vec_len r.buffer ≤ 65536) × (r.passed ≤ 16777216) };
 }
@@ -72,6 +73,7 @@ impl LineReader {
     pub fn new(alloc: Global) -> LineReader
         ensures held { result.held ≡ [] }
         ensures passed { result.passed ≡ 0 }
+        ensures ended { result.ended ≡ false }
     {
         LineReader {
             alloc,
@@ -79,6 +81,7 @@ impl LineReader {
             start: 0,
             end: 0,
             passed: 0,
+            ended: false,
         }
     }
 
@@ -87,8 +90,13 @@ impl LineReader {
         // The line is the first of what is left, and `None` comes exactly where nothing is left.
         ensures line { IfOk result (λ found. IfSome found (λ line.
             GivesLine (input self.old (S.left source.old)) (input self.new (S.left source.new)) line)) }
-        ensures end { IfOk result (λ found. IfNone found
+        ensures end { self.old.ended ≡ false → IfOk result (λ found. IfNone found
             (IsAtEnd (input self.old (S.left source.old)) × IsAtEnd (input self.new (S.left source.new)))) }
+
+        // The end was found exactly where the line has no LF, and nothing is read after it.
+        ensures last { IfOk result (λ found. IfSome found (λ line. IfSome (input self.old (S.left source.old))
+            (λ octets. span octets ≡ taken_by line self.new.ended))) }
+        ensures after_end { self.old.ended ≡ true → (result ≡ Ok None) × (self.new ≡ self.old) × (source.new ≡ source.old) }
 
         // A line that is handed out is within the limits, and an error of a limit comes only where it is passed.
         ensures line_short { IfOk result (λ found. IfSome found (λ line. length line ≤ MAX_LINE)) }
@@ -109,6 +117,9 @@ impl LineReader {
         // What was taken from the source past the lines handed out is one read at most.
         ensures ahead { length self.new.held ≤ MAX_READ }
     {
+        if self.ended {
+            return Ok(None);
+        }
         let before = self.passed;
         let Some(found) = self.read_line(source)? else {
             return Ok(None);
@@ -126,12 +137,14 @@ impl LineReader {
 
     /// The next line, whatever the input's length. One that is too long may be refused before its end.
     fn read_line<S: Source>(&mut self, source: &mut S) -> Result<Option<Found>, LineErr>
+        requires { self.old.ended ≡ false }
         ensures line { IfOk result (λ found. IfSome found (λ f.
             GivesLine (input self.old (S.left source.old)) (input self.new (S.left source.new)) f.line)) }
         ensures end { IfOk result (λ found. IfNone found
             (IsAtEnd (input self.old (S.left source.old)) × IsAtEnd (input self.new (S.left source.new)))) }
         ensures span { IfOk result (λ found. IfSome found (λ f. IfSome (input self.old (S.left source.old))
             (λ octets. f.span ≡ span octets))) }
+        ensures last { IfOk result (λ found. IfSome found (λ f. f.span ≡ taken_by f.line self.new.ended)) }
         ensures bound { IfOk result (λ found. IfSome found (λ f. f.span ≤ 100000)) }
         ensures passed { self.new.passed ≡ self.old.passed }
         ensures ahead { length self.new.held ≤ MAX_READ }
@@ -175,6 +188,7 @@ impl LineReader {
         ensures ahead { length self.new.held ≤ MAX_READ }
         ensures more { IfOk result (λ more. MatchBool more (0 < length self.new.held)
             ((self.new.held ≡ []) × IsAtEnd (S.left source.new))) }
+        ensures ended { IfOk result (λ more. MatchBool more (self.new.ended ≡ self.old.ended) (self.new.ended ≡ true)) }
         ensures unread { OnErr result (self.new.held ≡ []) }
         ensures errors { IfErr result (λ e. (e ≡ LineErr.Memory) ⊎ (e ≡ LineErr.ReadFault)) }
         ensures fault { IsErrOf result LineErr.ReadFault → Rose (S.fault_count source.old) (S.fault_count source.new) }
@@ -192,6 +206,9 @@ impl LineReader {
         match read_over(source, &mut self.buffer) {
             Ok(count) => {
                 self.end = count;
+                if count == 0 {
+                    self.ended = true;
+                }
                 Ok(count > 0)
             }
             Err(error) => Err(error),
@@ -201,6 +218,7 @@ impl LineReader {
     /// Moves what is held up to its first LF to the end of a line, takes the LF too, and answers whether there was one.
     fn take_part(&mut self, line: &mut Octets) -> Result<bool, LineErr>
         ensures passed { self.new.passed ≡ self.old.passed }
+        ensures ended { self.new.ended ≡ self.old.ended }
         ensures part { IfOk result (λ ended. MatchBool ended
             ((position_or_len is_line_feed self.old.held < length self.old.held)
             × (line.new ≡ line.old ++ line_of self.old.held) × (self.new.held ≡ rest_of self.old.held))

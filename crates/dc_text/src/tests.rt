@@ -96,6 +96,16 @@ fn limits_and_faults(rt: HostRuntime) -> Result<(), Fail> {
 }
 
 #[test]
+fn after_the_end_nothing_is_read(rt: HostRuntime) -> Result<(), Fail> {
+    let mut source = source_of(rt.alloc(), 5, b"", 3)?;
+    let mut reader = LineReader::new(rt.alloc());
+    assert_eq!(rt; next_length(&mut reader, &mut source), Ok(Some(5)));
+    assert_eq!(rt; next_length(&mut reader, &mut source), Ok(None));
+    assert_eq!(rt; next_length(&mut reader, &mut source), Ok(None));
+    Ok(())
+}
+
+#[test]
 fn an_input_has_16_mib_at_most(rt: HostRuntime) -> Result<(), Fail> {
     let mut octets = Vec::new(rt.alloc());
     for _ in 0..1024 {

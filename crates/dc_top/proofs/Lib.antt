@@ -3,4 +3,5 @@ pub mod Texts
 pub mod Worlds
 pub mod Taken
 pub mod Lines
+pub mod Happening
 pub mod SoFar

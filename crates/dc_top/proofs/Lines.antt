@@ -1,120 +1,110 @@
--- Events of lines: that a world takes them, and that their entries are those of the lines.
-use Rattle.std.proofs.Common.{◌≡◌, ◌++◌, true, List, [], ◌∷◌, map, refl, sym, ap, ◌∙◌, subst, arith, inl, inr, append_assoc, append-nil}
+-- Events of lines: that their entries are those of the lines.
+use Rattle.std.proofs.Common.{◌≡◌, ◌++◌, List, [], ◌∷◌, map, refl, sym, ap, ◌∙◌, subst, inl, inr, append_assoc, append-nil}
 use Rattle.std.specs.List.{flat_map}
 use Rattle.std.proofs.lemmas.Grind.{flat_map-append}
 use Rattle.dc_base.specs.declared.events.Header.{Header}
 use Rattle.dc_base.specs.declared.events.Event.{Event}
-use Rattle.dc_base.specs.declared.events.Event.TheVariants as event
-use Rattle.transcript.specs.Transcript.{Entry, EachFrom, entry_lines, transcript_text}
+use Rattle.dc_base.specs.declared.events.Line.{Line}
 use Rattle.transcript.specs.Content.{first_loaded}
-use Rattle.transcript.proofs.OnEach.{each_append}
-use Rattle.script_text.specs.Scripts.{IsScripted}
+use Rattle.transcript.specs.Transcript.{Entry, EachFrom, entry_lines, transcript_text}
 use Rattle.script_text.specs.declared.scripted.Scripted.{Scripted}
 use Rattle.script_text.specs.declared.scripted.Scripted.TheVariants.{One, Drain}
-use Rattle.dc_world.specs.Links.{first_nonempty}
-use Rattle.dc_world.specs.Run.{WorldState, Kept, new_world, happen, entry_of, world_after, entries_from, kept_after, IsGood, is_built}
-use Rattle.dc_top.specs.Script.{IsInRange, IsBuilt}
-use Rattle.dc_top.specs.Steps.{policies, kept_after_all, events_text, AreFirstSteps, AreEventsOf, AreBegun}
-use Rattle.dc_top.specs.Run.{IsDrainStep, AreEntriesOf, AreFirstEntriesOf}
-use Rattle.dc_world.proofs.Faithful.{AreGood, first_loaded_is}
+use Rattle.node_rules.specs.Choices.{Choices}
+use Rattle.node_rules.specs.Run.{entries_from, world_after, world_step}
+use Rattle.node_rules.specs.World as world
+use Rattle.node_rules.specs.World.{World, new_world}
+use Rattle.dc_network.specs.Counting.{Counted, counted, counts_of_both}
+use Rattle.dc_network.proofs.Counted.{counted-append}
+use Rattle.master_runs.specs.OfMaster.{AreOfMaster}
+use Rattle.master_runs.proofs.Contents.{first_loaded_is}
+use Rattle.master_runs.proofs.Runs.{whole_faithful}
+use Rattle.dc_top.specs.Steps.{AreBegun, AreEventsOf, AreFirstSteps, Counting, counting_after, counting_after_all, events_text}
+use Rattle.dc_top.specs.Run.{AreEntriesOf, AreFirstEntriesOf, IsByRules, IsDrainStep, events_of}
 use Rattle.dc_top.proofs.Texts.{transcript_text-append}
-use Rattle.dc_top.proofs.Worlds.{world_after-next, world_after-append, entries-next, entries-append}
+use Rattle.dc_top.proofs.Worlds.{entries-append, entries-next, events_are, world_after-append, world_after-next}
 
--- ---- events that a world takes
+module _ (c : Choices) where
+  pub events_begun : (line : Scripted) (k : Counting) (es : List Event) → AreEventsOf c line k es → AreBegun c line k es
+  events_begun (One e) k es one = inr one
+  events_begun Drain k es all = all.0
 
-pub scripted_good : (e : Event) → IsScripted e → IsGood e
-scripted_good (event.Bearer id n first shape threshold policy) s = (s.0.1, omega (arith, s.1))
-scripted_good (event.Reshape id shape) s = tt
-scripted_good (event.Remove id) s = tt
-scripted_good (event.Add node) s = tt
-scripted_good event.Change s = tt
-scripted_good event.Release s = tt
-scripted_good event.RekeySecond s = tt
-scripted_good (event.RekeyMaster root) s = tt
-scripted_good (event.Recover id) s = tt
-scripted_good (event.Report node id) s = tt
-scripted_good (event.Deny node on) s = tt
-scripted_good (event.Ask node what) s = tt
-scripted_good event.ScgFail s = tt
-scripted_good (event.Submit id dir sdu) s = s.1
-scripted_good (event.Step link index) s = tt
-scripted_good (event.Lose link index) s = tt
-scripted_good (event.Again link index) s = tt
+  -- ---- what there is after events from the start
 
-steps_good : (w : WorldState) (es : List Event) → AreFirstSteps w es → AreGood es
-steps_good w [] steps = tt
-steps_good w (e ∷ es) steps =
-    (subst (λ x. IsGood x × (is_built x ≡ true)) (sym steps.0.step) (tt, refl), steps_good (happen policies w e).0 es steps.1)
+  abbrev pub entries : Header → List Event → List Entry
+  entries h es = entries_from c (new_world h) es
 
-pub begun_good : (line : Scripted) (k : Kept) (es : List Event) → IsInRange line → IsBuilt line → AreBegun line k es → AreGood es
-begun_good (One e) k es good built (inl none) = subst AreGood (sym none) tt
-begun_good (One e) k es good built (inr one) = subst AreGood (sym one) ((scripted_good e good, built), tt)
-begun_good Drain k es good built steps = steps_good k.state es steps
+  abbrev pub state : Header → List Event → World
+  state h es = world_after c (new_world h) es
 
-pub events_begun : (line : Scripted) (k : Kept) (es : List Event) → AreEventsOf line k es → AreBegun line k es
-events_begun (One e) k es one = inr one
-events_begun Drain k es all = all.0
+  abbrev with_counts : World → Counted → Counting
+  with_counts w n = record { world = w; counts = n }
 
--- ---- what a world and its lines are after events from the start
+  abbrev pub counting : Header → List Event → Counting
+  counting h es = with_counts (state h es) (counted (flat_map entry_lines (entries h es)))
 
-abbrev pub kept : Header → List Event → Kept
-kept h es = record { state = world_after policies (new_world h) es; lines = flat_map entry_lines (entries_from policies (new_world h) es) }
+  -- the lines of one entry more
+  lines-next : (h : Header) (es : List Event) (e : Event)
+      → flat_map entry_lines (entries h es) ++ entry_lines (world_step c (state h es) e).1 ≡ flat_map entry_lines (entries h (es ++ e ∷ []))
+  lines-next h es e =
+      let x = (world_step c (state h es) e).1 in
+      ap (λ (l : List Line). flat_map entry_lines (entries h es) ++ l) (sym (append-nil (entry_lines x)))
+      ∙ sym (flat_map-append entry_lines (entries h es) (x ∷ []))
+      ∙ ap (λ (t : List Entry). flat_map entry_lines t) (sym (entries-next c (new_world h) es e))
 
-kept-next : (h : Header) (es : List Event) (e : Event) → kept_after policies (kept h es) e ≡ kept h (es ++ e ∷ [])
-kept-next h es e =
-    let state = sym (world_after-next (new_world h) es e) in
-    let lines : flat_map entry_lines (entries_from policies (new_world h) es) ++ entry_lines (entry_of policies (world_after policies (new_world h) es) e)
-    ≡ flat_map entry_lines (entries_from policies (new_world h) (es ++ e ∷ [])) =
-    ap (λ l. flat_map entry_lines (entries_from policies (new_world h) es) ++ l) (sym (append-nil (entry_lines (entry_of policies (world_after policies (new_world h) es) e))))
-    ∙ sym (flat_map-append entry_lines (entries_from policies (new_world h) es) (entry_of policies (world_after policies (new_world h) es) e ∷ []))
-    ∙ ap (flat_map entry_lines) (sym (entries-next (new_world h) es e)) in
-    cc
+  counting-next : (h : Header) (es : List Event) (e : Event) → counting_after c (counting h es) e ≡ counting h (es ++ e ∷ [])
+  counting-next h es e =
+      let x = (world_step c (state h es) e).1 in
+      ap (λ (w : World). with_counts w (counts_of_both (counting h es).counts (counted (entry_lines x)))) (sym (world_after-next c (new_world h) es e))
+      ∙ ap (with_counts (state h (es ++ e ∷ [])))
+      (sym (counted-append (flat_map entry_lines (entries h es)) (entry_lines x)) ∙ ap (λ (l : List Line). counted l) (lines-next h es e))
 
-pub kept-more : (h : Header) (es fs : List Event) → kept_after_all (kept h es) fs ≡ kept h (es ++ fs)
-kept-more h es [] = ap (kept h) (sym (append-nil es))
-kept-more h es (f ∷ fs) =
-    ap (λ k. kept_after_all k fs) (kept-next h es f) ∙ kept-more h (es ++ f ∷ []) fs ∙ ap (kept h) (append_assoc es (f ∷ []) fs)
+  pub counting-more : (h : Header) (es fs : List Event) → counting_after_all c (counting h es) fs ≡ counting h (es ++ fs)
+  counting-more h es [] = ap (counting h) (sym (append-nil es))
+  counting-more h es (f ∷ fs) =
+      ap (λ k. counting_after_all c k fs) (counting-next h es f) ∙ counting-more h (es ++ f ∷ []) fs ∙ ap (counting h) (append_assoc es (f ∷ []) fs)
 
--- ---- entries of lines
+  -- ---- the rules and the claims
 
-module _ (h : Header) where
-  abbrev pub entries : List Event → List Entry
-  entries es = entries_from policies (new_world h) es
+  pub ruled : (h : Header) (es : List Event) → IsByRules c h (entries h es)
+  ruled h es =
+      let own : events_of (entries h es) ≡ es = events_are c (new_world h) es in
+      record {
+        by_rules = ap (entries h) (sym own);
+        faithful = λ all. whole_faithful c h es (subst AreOfMaster own all);
+      }
 
-  abbrev pub state : List Event → WorldState
-  state es = world_after policies (new_world h) es
+  -- ---- entries of lines
 
-  pub entries_more : (es fs : List Event) → entries (es ++ fs) ≡ entries es ++ entries_from policies (state es) fs
-  entries_more es fs = entries-append (new_world h) es fs
+  module _ (h : Header) where
+    pub entries_more : (es fs : List Event) → entries h (es ++ fs) ≡ entries h es ++ entries_from c (state h es) fs
+    entries_more es fs = entries-append c (new_world h) es fs
 
-  pub state_more : (es fs : List Event) → state (es ++ fs) ≡ world_after policies (state es) fs
-  state_more es fs = world_after-append (new_world h) es fs
+    pub state_more : (es fs : List Event) → state h (es ++ fs) ≡ world_after c (state h es) fs
+    state_more es fs = world_after-append c (new_world h) es fs
 
-  pub text_more : (es fs : List Event) → transcript_text h (entries (es ++ fs)) ≡ transcript_text h (entries es) ++ events_text (state es) fs
-  text_more es fs = ap (transcript_text h) (entries_more es fs) ∙ transcript_text-append h (entries es) (entries_from policies (state es) fs)
+    pub text_more : (es fs : List Event) → transcript_text h (entries h (es ++ fs)) ≡ transcript_text h (entries h es) ++ events_text c (state h es) fs
+    text_more es fs = ap (transcript_text h) (entries_more es fs) ∙ transcript_text-append h (entries h es) (entries_from c (state h es) fs)
 
-  drain_steps : (es fs : List Event) → AreGood es → AreFirstSteps (state es) fs → EachFrom IsDrainStep (entries es) (entries_from policies (state es) fs)
-  drain_steps es [] good steps = tt
-  drain_steps es (f ∷ fs) good steps =
-      let next : state (es ++ f ∷ []) ≡ (happen policies (state es) f).0 = world_after-next (new_world h) es f in
-      let more : AreGood (es ++ f ∷ []) =
-      each_append (λ e. IsGood e × (is_built e ≡ true)) es (f ∷ []) good (steps_good (state es) (f ∷ []) (steps.0, tt)) in
-      let rest : EachFrom IsDrainStep (entries (es ++ f ∷ [])) (entries_from policies (state (es ++ f ∷ [])) fs) =
-      drain_steps (es ++ f ∷ []) fs more (subst (λ w. AreFirstSteps w fs) (sym next) steps.1) in (
-        record { link = steps.0.link; first = first_loaded_is policies h es good ∙ steps.0.first; step = steps.0.step },
-        subst (λ w. EachFrom IsDrainStep (entries es ++ entry_of policies (state es) f ∷ []) (entries_from policies w fs)) next
-            (subst (λ t. EachFrom IsDrainStep t (entries_from policies (state (es ++ f ∷ [])) fs)) (entries-next (new_world h) es f) rest),
-      )
+    drain_steps : (es fs : List Event) → AreFirstSteps c (state h es) fs → EachFrom IsDrainStep (entries h es) (entries_from c (state h es) fs)
+    drain_steps es [] steps = tt
+    drain_steps es (f ∷ fs) steps =
+        let next : state h (es ++ f ∷ []) ≡ (world_step c (state h es) f).0 = world_after-next c (new_world h) es f in
+        let rest : EachFrom IsDrainStep (entries h (es ++ f ∷ [])) (entries_from c (state h (es ++ f ∷ [])) fs) =
+        drain_steps (es ++ f ∷ []) fs (subst (λ w. AreFirstSteps c w fs) (sym next) steps.1) in (
+          record { link = steps.0.link; first = first_loaded_is c h es ∙ steps.0.first; step = steps.0.step },
+          subst (λ w. EachFrom IsDrainStep (entries h es ++ (world_step c (state h es) f).1 ∷ []) (entries_from c w fs)) next
+              (subst (λ t. EachFrom IsDrainStep t (entries_from c (state h (es ++ f ∷ [])) fs)) (entries-next c (new_world h) es f) rest),
+        )
 
-  pub are_entries : (line : Scripted) (es fs : List Event) → AreGood es → AreGood (es ++ fs) → AreEventsOf line (kept h es) fs
-      → AreEntriesOf line (entries es) (entries_from policies (state es) fs)
-  are_entries (One e) es fs good all one = subst (λ xs. map (λ x. x.event) (entries_from policies (state es) xs) ≡ e ∷ []) (sym one) refl
-  are_entries Drain es fs good all steps = (
-    drain_steps es fs good steps.0,
-    ap first_loaded (sym (entries_more es fs)) ∙ first_loaded_is policies h (es ++ fs) all ∙ ap (λ (k : Kept). first_nonempty k.state.links) (sym (kept-more h es fs)) ∙ steps.1,
-  )
+    pub are_entries : (line : Scripted) (es fs : List Event) → AreEventsOf c line (counting h es) fs → AreEntriesOf line (entries h es) (entries_from c (state h es) fs)
+    are_entries (One e) es fs one = subst (λ xs. map (λ x. x.event) (entries_from c (state h es) xs) ≡ e ∷ []) (sym one) refl
+    are_entries Drain es fs steps = (
+      drain_steps es fs steps.0,
+      ap first_loaded (sym (entries_more es fs)) ∙ first_loaded_is c h (es ++ fs)
+          ∙ ap (λ (k : Counting). world.first_loaded k.world.links) (sym (counting-more h es fs)) ∙ steps.1,
+    )
 
-  pub are_first : (line : Scripted) (es fs : List Event) → AreGood es → AreBegun line (kept h es) fs → AreFirstEntriesOf line (entries es) (entries_from policies (state es) fs)
-  are_first (One e) es fs good (inl none) = inl (ap (entries_from policies (state es)) none)
-  are_first (One e) es fs good (inr one) = inr (subst (λ xs. map (λ x. x.event) (entries_from policies (state es) xs) ≡ e ∷ []) (sym one) refl)
-  are_first Drain es fs good steps = drain_steps es fs good steps
+    pub are_first : (line : Scripted) (es fs : List Event) → AreBegun c line (counting h es) fs → AreFirstEntriesOf line (entries h es) (entries_from c (state h es) fs)
+    are_first (One e) es fs (inl none) = inl (ap (entries_from c (state h es)) none)
+    are_first (One e) es fs (inr one) = inr (subst (λ xs. map (λ x. x.event) (entries_from c (state h es) xs) ≡ e ∷ []) (sym one) refl)
+    are_first Drain es fs steps = drain_steps es fs steps

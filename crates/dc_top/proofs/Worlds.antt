@@ -1,211 +1,186 @@
--- Worlds after events, and the text of the entries that these make.
-use Rattle.std.proofs.Common.{ℕ, ◌≡◌, ◌+◌, ◌≤◌, ◌++◌, Bool, true, List, [], ◌∷◌, Option, Some, length, drop, take, refl, sym, ap, ◌∙◌, subst, arith, inl, inr, append_assoc, append-nil}
-use Rattle.std.specs.Prelude.{◌-◌, ◌↔◌, IfErr, IsTrue, Result, Ok, Err}
+-- The nodes after events, and the text of the entries that these make.
+use Rattle.std.proofs.Common.{ℕ, ◌≡◌, ◌+◌, ◌≤◌, ◌++◌, List, [], ◌∷◌, Option, Some, take, refl, sym, ap, ◌∙◌, subst, arith, inl, inr, append-nil}
+use Rattle.std.specs.Prelude.{IfErr, OnOk, Result, Ok, Err}
 use Rattle.std.specs.List.{flat_map}
 use Rattle.std.specs.Io.KnownBytes.{Appends}
 use Rattle.std.proofs.KnownBytes.{Appends-nil, Appends-trans}
-use Rattle.std.proofs.lemmas.List.{drop_at, take_rest}
+use Rattle.dc_base.specs.declared.answers.Answer.{Answer}
 use Rattle.dc_base.specs.declared.answers.Status.{Status}
 use Rattle.dc_base.specs.declared.answers.Status.TheVariants as status
 use Rattle.dc_base.specs.declared.events.Event.{Event}
 use Rattle.dc_base.specs.declared.events.Event.TheVariants.{Step}
-use Rattle.dc_base.specs.declared.nodes.LinkId.{LinkId}
 use Rattle.dc_base.specs.declared.events.Line.{Line}
+use Rattle.dc_base.specs.declared.events.Line.TheVariants as line
+use Rattle.dc_base.specs.declared.nodes.LinkId.{LinkId}
 use Rattle.transcript.specs.Text.{lines_text}
 use Rattle.transcript.specs.Transcript.{Entry, entry_lines}
 use Rattle.script_text.specs.declared.scripted.Scripted.{Scripted}
 use Rattle.script_text.specs.declared.scripted.Scripted.TheVariants.{One, Drain}
-use Rattle.dc_world.specs.Links.{first_nonempty}
-use Rattle.dc_world.specs.Run.{WorldState, Kept, happen, entry_of, world_after, entries_from, kept_after, counted, Counted, is_built, IsWithin}
-use Rattle.dc_base.specs.declared.events.Line.TheVariants as line
-use Rattle.dc_world.proofs.Counting.{counted-append, sum_of_counts, events_grow, events_next}
-use Rattle.dc_top.specs.Steps.{policies, kept_after_all, events_text, AreFirstSteps, HasRun, HasStopped, HasStoppedDraining, HasStoppedIn, HasEndedAt, IsUnwritten}
-use Rattle.dc_top.proofs.Texts.{entries_text-append}
+use Rattle.node_rules.specs.Choices.{Choices}
+use Rattle.node_rules.specs.Run.{entries_from, world_after, world_step}
+use Rattle.node_rules.specs.World.{World, first_loaded}
+use Rattle.dc_network.specs.Counting.{Counted, IsWithin, counted, counts_of_both}
+use Rattle.dc_network.proofs.Counted.{counted-append}
+use Rattle.dc_top.specs.Run.{events_of}
+use Rattle.dc_top.specs.Steps.{AreEventsOf, AreFirstSteps, Counting, HasRun, HasStopped, HasStoppedDraining, HasStoppedIn, IsUnwritten, counting_after, counting_after_all, events_text}
+use Rattle.dc_top.proofs.Texts.{entries_text-append, lines_text-append}
 
 -- ---- one event after others
 
-pub world_after-next : (w : WorldState) (es : List Event) (e : Event) → world_after policies w (es ++ e ∷ []) ≡ (happen policies (world_after policies w es) e).0
-world_after-next w [] e = refl
-world_after-next w (x ∷ es) e = world_after-next (happen policies w x).0 es e
+module _ (c : Choices) where
+  pub world_after-next : (w : World) (es : List Event) (e : Event) → world_after c w (es ++ e ∷ []) ≡ (world_step c (world_after c w es) e).0
+  world_after-next w [] e = refl
+  world_after-next w (x ∷ es) e = world_after-next (world_step c w x).0 es e
 
-pub world_after-append : (w : WorldState) (es fs : List Event) → world_after policies w (es ++ fs) ≡ world_after policies (world_after policies w es) fs
-world_after-append w [] fs = refl
-world_after-append w (x ∷ es) fs = world_after-append (happen policies w x).0 es fs
+  pub world_after-append : (w : World) (es fs : List Event) → world_after c w (es ++ fs) ≡ world_after c (world_after c w es) fs
+  world_after-append w [] fs = refl
+  world_after-append w (x ∷ es) fs = world_after-append (world_step c w x).0 es fs
 
-pub entries-next : (w : WorldState) (es : List Event) (e : Event)
-    → entries_from policies w (es ++ e ∷ []) ≡ entries_from policies w es ++ entry_of policies (world_after policies w es) e ∷ []
-entries-next w [] e = refl
-entries-next w (x ∷ es) e = ap (λ (t : List Entry). entry_of policies w x ∷ t) (entries-next (happen policies w x).0 es e)
+  pub entries-next : (w : World) (es : List Event) (e : Event)
+      → entries_from c w (es ++ e ∷ []) ≡ entries_from c w es ++ (world_step c (world_after c w es) e).1 ∷ []
+  entries-next w [] e = refl
+  entries-next w (x ∷ es) e = ap (λ (t : List Entry). (world_step c w x).1 ∷ t) (entries-next (world_step c w x).0 es e)
 
-pub entries-append : (w : WorldState) (es fs : List Event) → entries_from policies w (es ++ fs) ≡ entries_from policies w es ++ entries_from policies (world_after policies w es) fs
-entries-append w [] fs = refl
-entries-append w (e ∷ es) fs = ap (λ (t : List Entry). entry_of policies w e ∷ t) (entries-append (happen policies w e).0 es fs)
+  pub entries-append : (w : World) (es fs : List Event) → entries_from c w (es ++ fs) ≡ entries_from c w es ++ entries_from c (world_after c w es) fs
+  entries-append w [] fs = refl
+  entries-append w (e ∷ es) fs = ap (λ (t : List Entry). (world_step c w e).1 ∷ t) (entries-append (world_step c w e).0 es fs)
 
-pub kept-append : (k : Kept) (es fs : List Event) → kept_after_all k (es ++ fs) ≡ kept_after_all (kept_after_all k es) fs
-kept-append k [] fs = refl
-kept-append k (e ∷ es) fs = kept-append (kept_after policies k e) es fs
+  -- the events of their entries are the events
+  pub events_are : (w : World) (es : List Event) → events_of (entries_from c w es) ≡ es
+  events_are w [] = refl
+  events_are w (e ∷ es) = ap (λ (t : List Event). e ∷ t) (events_are (world_step c w e).0 es)
 
-pub kept_state : (k : Kept) (es : List Event) → (kept_after_all k es).state ≡ world_after policies k.state es
-kept_state k [] = refl
-kept_state k (e ∷ es) = kept_state (kept_after policies k e) es
+  pub counting-append : (k : Counting) (es fs : List Event) → counting_after_all c k (es ++ fs) ≡ counting_after_all c (counting_after_all c k es) fs
+  counting-append k [] fs = refl
+  counting-append k (e ∷ es) fs = counting-append (counting_after c k e) es fs
 
-pub steps-append : (w : WorldState) (es fs : List Event) → AreFirstSteps w es → AreFirstSteps (world_after policies w es) fs → AreFirstSteps w (es ++ fs)
-steps-append w [] fs steps more = more
-steps-append w (e ∷ es) fs steps more = (steps.0, steps-append (happen policies w e).0 es fs steps.1 more)
+  pub counting_world : (k : Counting) (es : List Event) → (counting_after_all c k es).world ≡ world_after c k.world es
+  counting_world k [] = refl
+  counting_world k (e ∷ es) = counting_world (counting_after c k e) es
 
-steps_before : (w : WorldState) (es : List Event) (e : Event) → AreFirstSteps w (es ++ e ∷ []) → AreFirstSteps w es
-steps_before w [] e steps = tt
-steps_before w (x ∷ es) e steps = (steps.0, steps_before (happen policies w x).0 es e steps.1)
+  pub steps-append : (w : World) (es fs : List Event) → AreFirstSteps c w es → AreFirstSteps c (world_after c w es) fs → AreFirstSteps c w (es ++ fs)
+  steps-append w [] fs steps more = more
+  steps-append w (e ∷ es) fs steps more = (steps.0, steps-append (world_step c w e).0 es fs steps.1 more)
 
-events_text-append : (w : WorldState) (es fs : List Event) → events_text w (es ++ fs) ≡ events_text w es ++ events_text (world_after policies w es) fs
-events_text-append w es fs =
-    ap (λ t. lines_text (flat_map entry_lines t)) (entries-append w es fs)
-    ∙ entries_text-append (entries_from policies w es) (entries_from policies (world_after policies w es) fs)
+  steps_before : (w : World) (es : List Event) (e : Event) → AreFirstSteps c w (es ++ e ∷ []) → AreFirstSteps c w es
+  steps_before w [] e steps = tt
+  steps_before w (x ∷ es) e steps = (steps.0, steps_before (world_step c w x).0 es e steps.1)
+
+  events_text-append : (w : World) (es fs : List Event) → events_text c w (es ++ fs) ≡ events_text c w es ++ events_text c (world_after c w es) fs
+  events_text-append w es fs =
+      ap (λ t. lines_text (flat_map entry_lines t)) (entries-append w es fs)
+      ∙ entries_text-append (entries_from c w es) (entries_from c (world_after c w es) fs)
 
 -- ---- one event, run
 
--- the new lines are those of the one entry
-pub new_text : (k : Kept) (e : Event) → lines_text (drop (length k.lines) (kept_after policies k e).lines) ≡ events_text k.state (e ∷ [])
-new_text k e =
-    ap lines_text (drop_at k.lines (entry_lines (entry_of policies k.state e)) (length k.lines) refl ∙ sym (append-nil (entry_lines (entry_of policies k.state e))))
+-- the text of the one entry, as it is made
+pub happened_text : (x : Entry) (e : Event) (a : Answer) (ls : List Line) → x ≡ record { event = e; answer = a; lines = ls }
+    → lines_text (line.Event e ∷ []) ++ lines_text (line.Answer a ∷ ls) ≡ lines_text (flat_map entry_lines (x ∷ []))
+happened_text x e a ls is =
+    sym (lines_text-append (line.Event e ∷ []) (line.Answer a ∷ ls)) ∙ ap (λ (y : Entry). lines_text (entry_lines y)) (sym is)
+    ∙ ap lines_text (sym (append-nil (entry_lines x)))
 
--- so they are in a list of all lines
-pub new_lines : (k m : Kept) (e : Event) (xs : List Line) (n : ℕ) → m ≡ kept_after policies k e → xs ≡ m.lines → n ≡ length k.lines
-    → lines_text (take (length xs - n) (drop n xs)) ≡ events_text k.state (e ∷ [])
-new_lines k m e xs n is all counted =
-    ap lines_text (take_rest xs n ∙ ap (λ j. drop j xs) counted ∙ ap (λ l. drop (length k.lines) l) (all ∙ ap (λ (x : Kept). x.lines) is)) ∙ new_text k e
+module _ (c : Choices) where
+  -- a text that was not written, of one event
+  pub unwritten_stopped : {T : Type 0} (r : Result T Status) (k : Counting) (e : Event) (text : List ℕ) (old new : Option (List ℕ))
+      → text ≡ events_text c k.world (e ∷ []) → IsWithin k.counts → IsWithin (counting_after c k e).counts
+      → IfErr r (λ s. IsUnwritten s text old new) → IfErr r (λ s. HasStopped c s k [] e old new)
+  unwritten_stopped (Ok x) k e text old new is before after un = tt
+  unwritten_stopped (Err status.Ok) k e text old new is before after un = un
+  unwritten_stopped (Err status.Usage) k e text old new is before after un = un
+  unwritten_stopped (Err (status.BadLine line column)) k e text old new is before after un = un
+  unwritten_stopped (Err status.ReadFault) k e text old new is before after un = un
+  unwritten_stopped (Err status.WriteFault) k e text old new is before after un =
+      (un.0, after, subst (λ t. Appends old new (take un.0 t)) is un.1)
+  unwritten_stopped (Err status.Memory) k e text old new is before after un = (before, un)
+  unwritten_stopped (Err status.TooLong) k e text old new is before after un = absurd un
 
--- what a test of the counts says
-pub kept_within : (k m : Kept) (e : Event) (c : Counted) (r : Bool) → m ≡ kept_after policies k e → counted m.lines ≡ c → r ≡ true → (IsTrue r ↔ IsWithin c)
-    → IsWithin (counted (kept_after policies k e).lines)
-kept_within k m e c r is counts yes' test =
-    subst (λ (x : Kept). IsWithin (counted x.lines)) is (subst IsWithin (sym counts) (test.0 yes'))
+  -- ---- one event more
 
--- a text that was not written, of one event
-pub unwritten_stopped : {T : Type 0} (r : Result T Status) (k : Kept) (e : Event) (text : List ℕ) (old new : Option (List ℕ))
-    → text ≡ events_text k.state (e ∷ []) → IsWithin (counted k.lines) → IsWithin (counted (kept_after policies k e).lines)
-    → IfErr r (λ s. IsUnwritten s text old new) → IfErr r (λ s. HasStopped s k [] e old new)
-unwritten_stopped (Ok x) k e text old new is before after un = tt
-unwritten_stopped (Err status.Ok) k e text old new is before after un = un
-unwritten_stopped (Err status.Usage) k e text old new is before after un = un
-unwritten_stopped (Err (status.BadLine line column)) k e text old new is before after un = un
-unwritten_stopped (Err status.ReadFault) k e text old new is before after un = un
-unwritten_stopped (Err status.WriteFault) k e text old new is before after un =
-    (un.0, after, subst (λ t. Appends old new (take un.0 t)) is un.1)
-unwritten_stopped (Err status.Memory) k e text old new is before after un = (before, un)
-unwritten_stopped (Err status.TooLong) k e text old new is before after un = absurd un
-unwritten_stopped (Err status.NotBuilt) k e text old new is before after un = un
+  pub run_none : (k : Counting) (old : Option (List ℕ)) → IsWithin k.counts → HasRun c k [] k old old
+  run_none k old within = record { after = refl; within = within; written = Appends-nil old }
 
--- ---- one event more
+  pub run_more : (k m n : Counting) (es fs : List Event) (x y z : Option (List ℕ)) → HasRun c k es m x y → HasRun c m fs n y z → HasRun c k (es ++ fs) n x z
+  run_more k m n es fs x y z p q =
+      let world : m.world ≡ world_after c k.world es = ap (λ (j : Counting). j.world) p.after ∙ counting_world c k es in
+      record {
+        after = q.after ∙ ap (λ j. counting_after_all c j fs) p.after ∙ sym (counting-append c k es fs);
+        within = q.within;
+        written = subst (Appends x z) (ap (λ w. events_text c k.world es ++ events_text c w fs) world ∙ sym (events_text-append c k.world es fs))
+            (Appends-trans x y z (events_text c k.world es) (events_text c m.world fs) p.written q.written);
+      }
 
-pub run_none : (k : Kept) (old : Option (List ℕ)) → IsWithin (counted k.lines) → HasRun k [] k old old
-run_none k old within = record { world = refl; within = within; written = Appends-nil old }
+  -- the end came at the one event after events that were run
+  pub stopped_after : (s : Status) (k m : Counting) (es : List Event) (e : Event) (x y z : Option (List ℕ)) → HasRun c k es m x y → HasStopped c s m [] e y z → HasStopped c s k es e x z
+  stopped_after status.Ok k m es e x y z p q = q
+  stopped_after status.Usage k m es e x y z p q = q
+  stopped_after (status.BadLine line column) k m es e x y z p q = q
+  stopped_after status.ReadFault k m es e x y z p q = q
+  stopped_after status.Memory k m es e x y z p q = (
+    subst (λ (j : Counting). IsWithin j.counts) p.after p.within,
+    subst (Appends x z) (append-nil (events_text c k.world es)) (Appends-trans x y z (events_text c k.world es) [] p.written q.1),
+  )
+  stopped_after status.TooLong k m es e x y z p q =
+      let next : counting_after_all c m (e ∷ []) ≡ counting_after_all c k (es ++ e ∷ []) = ap (λ j. counting_after_all c j (e ∷ [])) p.after ∙ sym (counting-append c k es (e ∷ [])) in (
+        subst (λ (j : Counting). IsWithin j.counts) p.after p.within,
+        subst (λ (j : Counting). IsWithin j.counts → ⊥) next q.1,
+        subst (Appends x z) (append-nil (events_text c k.world es)) (Appends-trans x y z (events_text c k.world es) [] p.written q.2),
+      )
+  stopped_after status.WriteFault k m es e x y z p q =
+      let next : counting_after_all c m (e ∷ []) ≡ counting_after_all c k (es ++ e ∷ []) = ap (λ j. counting_after_all c j (e ∷ [])) p.after ∙ sym (counting-append c k es (e ∷ [])) in (
+        q.0,
+        subst (λ (j : Counting). IsWithin j.counts) next q.1,
+        subst (λ (j : Counting). Appends x z (events_text c k.world es ++ take q.0 (events_text c j.world (e ∷ [])))) p.after
+            (Appends-trans x y z (events_text c k.world es) (take q.0 (events_text c m.world (e ∷ []))) p.written q.2),
+      )
 
-pub run_more : (k m n : Kept) (es fs : List Event) (a b c : Option (List ℕ)) → HasRun k es m a b → HasRun m fs n b c → HasRun k (es ++ fs) n a c
-run_more k m n es fs a b c p q =
-    let state : m.state ≡ world_after policies k.state es = ap (λ (x : Kept). x.state) p.world ∙ kept_state k es in
-    record {
-      world = q.world ∙ ap (λ x. kept_after_all x fs) p.world ∙ sym (kept-append k es fs);
-      within = q.within;
-      written = subst (Appends a c) (ap (λ w. events_text k.state es ++ events_text w fs) state ∙ sym (events_text-append k.state es fs))
-          (Appends-trans a b c (events_text k.state es) (events_text m.state fs) p.written q.written);
-    }
+  -- ---- the ends of lines
 
--- the end came at the one event after events that were run
-pub stopped_after : (s : Status) (k m : Kept) (es : List Event) (e : Event) (a b c : Option (List ℕ)) → HasRun k es m a b → HasStopped s m [] e b c → HasStopped s k es e a c
-stopped_after status.Ok k m es e a b c p q = q
-stopped_after status.Usage k m es e a b c p q = q
-stopped_after (status.BadLine line column) k m es e a b c p q = q
-stopped_after status.ReadFault k m es e a b c p q = q
-stopped_after status.NotBuilt k m es e a b c p q = q
-stopped_after status.Memory k m es e a b c p q = (
-  subst (λ (x : Kept). IsWithin (counted x.lines)) p.world p.within,
-  subst (Appends a c) (append-nil (events_text k.state es)) (Appends-trans a b c (events_text k.state es) [] p.written q.1),
-)
-stopped_after status.TooLong k m es e a b c p q =
-    let next : kept_after_all m (e ∷ []) ≡ kept_after_all k (es ++ e ∷ []) = ap (λ x. kept_after_all x (e ∷ [])) p.world ∙ sym (kept-append k es (e ∷ [])) in (
-      subst (λ (x : Kept). IsWithin (counted x.lines)) p.world p.within,
-      subst (λ (x : Kept). IsWithin (counted x.lines) → ⊥) next q.1,
-      subst (Appends a c) (append-nil (events_text k.state es)) (Appends-trans a b c (events_text k.state es) [] p.written q.2),
-    )
-stopped_after status.WriteFault k m es e a b c p q =
-    let next : kept_after_all m (e ∷ []) ≡ kept_after_all k (es ++ e ∷ []) = ap (λ x. kept_after_all x (e ∷ [])) p.world ∙ sym (kept-append k es (e ∷ [])) in (
-      q.0,
-      subst (λ (x : Kept). IsWithin (counted x.lines)) next q.1,
-      subst (λ (x : Kept). Appends a c (events_text k.state es ++ take q.0 (events_text x.state (e ∷ [])))) p.world
-          (Appends-trans a b c (events_text k.state es) (take q.0 (events_text m.state (e ∷ []))) p.written q.2),
-    )
+  -- one more step
+  pub first_step : (k m : Counting) (es : List Event) (l : LinkId) (x y : Option (List ℕ)) → HasRun c k es m x y → Some l ≡ first_loaded m.world.links → AreFirstSteps c k.world es
+      → AreFirstSteps c k.world (es ++ Step l 0 ∷ [])
+  first_step k m es l x y run first steps =
+      let world : m.world ≡ world_after c k.world es = ap (λ (j : Counting). j.world) run.after ∙ counting_world c k es in
+      steps-append c k.world es (Step l 0 ∷ []) steps
+      (record { link = l; first = ap (λ (w : World). first_loaded w.links) (sym world) ∙ sym first; step = refl }, tt)
 
--- ---- the ends of lines
+  pub drain_ended : {T : Type 0} (r : Result T Status) (line : Scripted) (k : Counting) (old new : Option (List ℕ)) → line ≡ Drain
+      → IfErr r (λ s. HasStoppedDraining c s k old new) → IfErr r (λ s. HasStoppedIn c s line k old new)
+  drain_ended (Ok x) line k old new is p = tt
+  drain_ended (Err s) line k old new is p =
+      subst (λ l. HasStoppedIn c s l k old new) (sym is)
+      (record { before = p.before; event = p.event; begun = steps_before c k.world p.before p.event p.steps; next = p.steps; stopped = p.stopped })
 
--- one more step
-pub first_step : (k m : Kept) (es : List Event) (l : LinkId) (a b : Option (List ℕ)) → HasRun k es m a b → Some l ≡ first_nonempty m.state.links → AreFirstSteps k.state es
-    → AreFirstSteps k.state (es ++ Step l 0 ∷ [])
-first_step k m es l a b run first steps =
-    let state : m.state ≡ world_after policies k.state es = ap (λ (x : Kept). x.state) run.world ∙ kept_state k es in
-    steps-append k.state es (Step l 0 ∷ []) steps
-    (record { link = l; first = ap (λ (w : WorldState). first_nonempty w.links) (sym state) ∙ sym first; step = refl }, tt)
+  pub event_ended : {T : Type 0} (r : Result T Status) (line : Scripted) (e : Event) (k : Counting) (old new : Option (List ℕ)) → line ≡ One e
+      → IfErr r (λ s. HasStopped c s k [] e old new) → IfErr r (λ s. HasStoppedIn c s line k old new)
+  event_ended (Ok x) line e k old new is p = tt
+  event_ended (Err s) line e k old new is p =
+      subst (λ l. HasStoppedIn c s l k old new) (sym is)
+      (record { before = []; event = e; begun = inl refl; next = inr refl; stopped = p })
 
-pub drain_ended : {T : Type 0} (r : Result T Status) (line : Scripted) (k : Kept) (old new : Option (List ℕ)) → line ≡ Drain
-    → IfErr r (λ s. HasStoppedDraining s k old new) → IfErr r (λ s. HasEndedAt s line k old new)
-drain_ended r line k old new is stopped = subst (λ l. IfErr r (λ s. HasEndedAt s l k old new)) (sym is) (by_result r stopped)
-  where
-    in_drain : (s : Status) → HasStoppedDraining s k old new → HasStoppedIn s Drain k old new
-    in_drain s p = record { built = tt; before = p.before; event = p.event; begun = steps_before k.state p.before p.event p.steps; next = p.steps; stopped = p.stopped }
-
-    by_status : (s : Status) → HasStoppedDraining s k old new → HasEndedAt s Drain k old new
-    by_status status.Ok p = in_drain status.Ok p
-    by_status status.Usage p = in_drain status.Usage p
-    by_status (status.BadLine number column) p = in_drain (status.BadLine number column) p
-    by_status status.ReadFault p = in_drain status.ReadFault p
-    by_status status.WriteFault p = in_drain status.WriteFault p
-    by_status status.Memory p = in_drain status.Memory p
-    by_status status.TooLong p = in_drain status.TooLong p
-    by_status status.NotBuilt p = absurd p.stopped
-
-    by_result : {T : Type 0} (r : Result T Status) → IfErr r (λ s. HasStoppedDraining s k old new) → IfErr r (λ s. HasEndedAt s Drain k old new)
-    by_result (Ok x) p = tt
-    by_result (Err s) p = by_status s p
-
-pub event_ended : {T : Type 0} (r : Result T Status) (line : Scripted) (e : Event) (k : Kept) (old new : Option (List ℕ)) → line ≡ One e → is_built e ≡ true
-    → IfErr r (λ s. HasStopped s k [] e old new) → IfErr r (λ s. HasEndedAt s line k old new)
-event_ended r line e k old new is built stopped = subst (λ l. IfErr r (λ s. HasEndedAt s l k old new)) (sym is) (by_result r stopped)
-  where
-    in_event : (s : Status) → HasStopped s k [] e old new → HasStoppedIn s (One e) k old new
-    in_event s p = record { built = built; before = []; event = e; begun = inl refl; next = inr refl; stopped = p }
-
-    by_status : (s : Status) → HasStopped s k [] e old new → HasEndedAt s (One e) k old new
-    by_status status.Ok p = in_event status.Ok p
-    by_status status.Usage p = in_event status.Usage p
-    by_status (status.BadLine number column) p = in_event (status.BadLine number column) p
-    by_status status.ReadFault p = in_event status.ReadFault p
-    by_status status.WriteFault p = in_event status.WriteFault p
-    by_status status.Memory p = in_event status.Memory p
-    by_status status.TooLong p = in_event status.TooLong p
-    by_status status.NotBuilt p = absurd p
-
-    by_result : {T : Type 0} (r : Result T Status) → IfErr r (λ s. HasStopped s k [] e old new) → IfErr r (λ s. HasEndedAt s (One e) k old new)
-    by_result (Ok x) p = tt
-    by_result (Err s) p = by_status s p
+  -- the event of a line was run
+  pub event_ran : {T : Type 0} (r : Result T Status) (line : Scripted) (e : Event) (k k' : Counting) (old new : Option (List ℕ)) → line ≡ One e
+      → OnOk r (HasRun c k (e ∷ []) k' old new) → OnOk r ((es : List Event) × AreEventsOf c line k es × HasRun c k es k' old new)
+  event_ran (Ok x) line e k k' old new is p = (e ∷ [], subst (λ l. AreEventsOf c l k (e ∷ [])) (sym is) refl, p)
+  event_ran (Err s) line e k k' old new is p = tt
 
 -- ---- the limit on events
 
 -- an entry is one event more
-pub one_event_more : (k : Kept) (e : Event) → (counted k.lines).events + 1 ≤ (counted (kept_after policies k e).lines).events
-one_event_more k e =
-    let n = events_grow (k.lines ++ line.Event e ∷ []) (line.Answer (entry_of policies k.state e).answer ∷ (entry_of policies k.state e).lines) in
-    let m = events_next k.lines e in
-    let same : (k.lines ++ line.Event e ∷ []) ++ (line.Answer (entry_of policies k.state e).answer ∷ (entry_of policies k.state e).lines) ≡ (kept_after policies k e).lines =
-    append_assoc k.lines (line.Event e ∷ []) (line.Answer (entry_of policies k.state e).answer ∷ (entry_of policies k.state e).lines) in
-    let t : (counted ((k.lines ++ line.Event e ∷ []) ++ (line.Answer (entry_of policies k.state e).answer ∷ (entry_of policies k.state e).lines))).events
-    ≡ (counted (kept_after policies k e).lines).events = ap (λ (l : List Line). (counted l).events) same in
-    omega (arith, n, m, t)
+entry_events : (x : Entry) → 1 ≤ (counted (entry_lines x)).events
+entry_events x =
+    let e = ap (λ (n : Counted). n.events) (counted-append (line.Event x.event ∷ []) (line.Answer x.answer ∷ x.lines)) in
+    let one : (counted (line.Event x.event ∷ [])).events ≡ 1 = refl in
+    omega (arith, e, one)
 
--- events before one that is within the limits are
-pub within_front : (k : Kept) (es : List Event) (e : Event) → IsWithin (counted (kept_after_all k (es ++ e ∷ [])).lines) → IsWithin (counted (kept_after_all k es).lines)
-within_front k es e within =
-    let m = kept_after_all k es in
-    let own = entry_lines (entry_of policies m.state e) in
-    let whole : IsWithin (counted (m.lines ++ own)) = subst (λ (x : Kept). IsWithin (counted x.lines)) (kept-append k es (e ∷ [])) within in
-    let sum : IsWithin (sum_of_counts (counted m.lines) (counted own)) = subst IsWithin (counted-append m.lines own) whole in
-    record { events = omega arith; flights = omega arith; octets = omega arith }
+module _ (c : Choices) where
+  pub one_event_more : (k : Counting) (e : Event) → k.counts.events + 1 ≤ (counting_after c k e).counts.events
+  one_event_more k e = let one = entry_events (world_step c k.world e).1 in omega (arith, one)
+
+  -- events before one that is within the limits are
+  pub within_front : (k : Counting) (es : List Event) (e : Event) → IsWithin (counting_after_all c k (es ++ e ∷ [])).counts → IsWithin (counting_after_all c k es).counts
+  within_front k es e within =
+      let m = counting_after_all c k es in
+      let own = counted (entry_lines (world_step c m.world e).1) in
+      let sum : IsWithin (counts_of_both m.counts own) = subst (λ (j : Counting). IsWithin j.counts) (counting-append c k es (e ∷ [])) within in
+      record { events = omega arith; flights = omega arith; octets = omega arith }

@@ -1,8 +1,9 @@
 -- The transcript of a script, said of the transcript alone, and a run of the first lines of some octets.
-use Rattle.std.specs.Prelude.{◌≡◌, ℕ, ◌⊎◌, List, [], ◌∷◌, ◌++◌, map, Some, None}
+use Rattle.std.specs.Prelude.{◌≡◌, ℕ, ◌⊎◌, List, [], ◌∷◌, ◌++◌, length, map, Some, None}
 use Rattle.std.specs.List.{AllByRecursion, flat_map}
 use Rattle.dc_base.specs.declared.nodes.LinkId.{LinkId}
 use Rattle.dc_base.specs.declared.events.Header.{Header}
+use Rattle.dc_base.specs.declared.events.Event.{Event}
 use Rattle.dc_base.specs.declared.events.Event.TheVariants.{Step}
 use Rattle.transcript.specs.Transcript.{Entry, EachFrom, entry_lines, transcript_text}
 use Rattle.transcript.specs.Content.{first_loaded}
@@ -10,9 +11,12 @@ use Rattle.transcript.specs.Claims.{IsFaithful}
 use Rattle.script_text.specs.Scripts.{IsScriptHeader}
 use Rattle.script_text.specs.declared.scripted.Scripted.{Scripted}
 use Rattle.script_text.specs.declared.scripted.Scripted.TheVariants.{One, Drain}
-use Rattle.dc_world.specs.Run.{counted, IsWithin}
+use Rattle.node_rules.specs.Choices.{Choices}
+use Rattle.node_rules.specs.Run.{entries_from}
+use Rattle.node_rules.specs.World.{new_world}
+use Rattle.dc_network.specs.Counting.{IsWithin, counted}
+use Rattle.master_runs.specs.OfMaster.{AreOfMaster}
 use Rattle.dc_top.specs.Script.{IsTaken, HasRead}
-use Rattle.dc_top.specs.Steps.{policies}
 
 -- an entry is the step of the first flight on the first link on which one stands after the entries before it
 pub record IsDrainStep (before : List Entry) (e : Entry) : Type 0 where
@@ -47,8 +51,18 @@ pub data IsNextOf : List Scripted → List Entry → Entry → Type 0 where
   next : (lines : List Scripted) (before : List Entry) (line : Scripted) (es : List Entry) (e : Entry) → IsTranscriptOf lines before
       → AreFirstEntriesOf line before (es ++ e ∷ []) → IsNextOf (lines ++ line ∷ []) (before ++ es) e
 
--- a run of the header and the first lines of octets, of which this rest is left, and the text of its entries, which meet all claims
-pub record RanTo (Of : List Scripted → List Entry → Type 0) (input rest text : List ℕ) : Type 0 where
+-- the events of entries
+abbrev pub events_of : List Entry → List Event
+events_of entries = map (λ e. e.event) entries
+
+-- a transcript by the rules: its answers and lines are those that the rules of the nodes and the links give for its events,
+-- from the opening state on; and where all its bearers are at the master, it meets all claims
+pub record IsByRules (c : Choices) (h : Header) (entries : List Entry) : Type 0 where
+  pub by_rules : entries ≡ entries_from c (new_world h) (events_of entries)
+  pub faithful : AreOfMaster (events_of entries) → IsFaithful h (length c.policies) entries
+
+-- a run of the header and the first lines of octets, of which this rest is left, and the text of its entries
+pub record RanTo (c : Choices) (Of : List Scripted → List Entry → Type 0) (input rest text : List ℕ) : Type 0 where
   pub header : Header
   pub lines : List Scripted
   pub entries : List Entry
@@ -56,12 +70,12 @@ pub record RanTo (Of : List Scripted → List Entry → Type 0) (input rest text
   pub taken : AllByRecursion IsTaken lines
   pub read : HasRead input header lines rest
   pub transcript : Of lines entries
-  pub faithful : IsFaithful header policies entries
+  pub ruled : IsByRules c header entries
   pub within : IsWithin (counted (flat_map entry_lines entries))
   pub spelled : text ≡ transcript_text header entries
 
--- a run up to this entry of the last of its lines, and the text of the entries before it, which meet all claims with it
-pub record RanUpTo (e : Entry) (input rest text : List ℕ) : Type 0 where
+-- a run up to this entry of the last of its lines, and the text of the entries before it
+pub record RanUpTo (c : Choices) (e : Entry) (input rest text : List ℕ) : Type 0 where
   pub header : Header
   pub lines : List Scripted
   pub entries : List Entry
@@ -69,6 +83,6 @@ pub record RanUpTo (e : Entry) (input rest text : List ℕ) : Type 0 where
   pub taken : AllByRecursion IsTaken lines
   pub read : HasRead input header lines rest
   pub next : IsNextOf lines entries e
-  pub faithful : IsFaithful header policies (entries ++ e ∷ [])
+  pub ruled : IsByRules c header (entries ++ e ∷ [])
   pub within : IsWithin (counted (flat_map entry_lines entries))
   pub spelled : text ≡ transcript_text header entries

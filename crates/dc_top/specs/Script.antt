@@ -1,17 +1,15 @@
 -- A script as octets, and how much of it was read.
-use Rattle.std.specs.Prelude.{◌≡◌, ℕ, ◌+◌, ◌<◌, ◌≤◌, ◌⊎◌, true, List, [], ◌∷◌, ◌++◌, length, codes, Option, IfSome, ⊤}
+use Rattle.std.specs.Prelude.{◌≡◌, ℕ, ◌+◌, ◌<◌, ◌≤◌, ◌⊎◌, List, [], ◌∷◌, ◌++◌, length, codes, Option, IfSome, ⊤}
 use Rattle.std.specs.List.{flat_map}
 use Rattle.dc_base.specs.declared.answers.Status.{Status}
 use Rattle.dc_base.specs.declared.answers.Status.TheVariants as status
 use Rattle.dc_base.specs.declared.events.Header.{Header}
-use Rattle.dc_base.specs.declared.events.Event.{Event}
 use Rattle.dc_text.specs.Lines.{IsCutOff, line_of, span}
 use Rattle.transcript.specs.Text.{header_text, event_text, ended}
 use Rattle.script_text.specs.Grammar.{IsColumn, IsHeaderColumn}
 use Rattle.script_text.specs.Scripts.{IsScripted, IsScriptHeader, IsLineOf}
 use Rattle.script_text.specs.declared.scripted.Scripted.{Scripted}
 use Rattle.script_text.specs.declared.scripted.Scripted.TheVariants.{One, Drain}
-use Rattle.dc_world.specs.Run.{is_built}
 
 -- the most octets that a script has: 16 MiB
 abbrev pub most_octets : ℕ
@@ -35,15 +33,9 @@ abbrev pub IsInRange : Scripted → Type 0
 IsInRange (One e) = IsScripted e
 IsInRange Drain = ⊤
 
--- a line is no event that is not built
-abbrev pub IsBuilt : Scripted → Type 0
-IsBuilt (One e) = is_built e ≡ true
-IsBuilt Drain = ⊤
-
--- a run takes the line
+-- a line that a run takes
 pub record IsTaken (line : Scripted) : Type 0 where
   pub in_range : IsInRange line
-  pub built : IsBuilt line
   pub short : length (script_line line) ≤ most_line
 
 -- octets begin with a header and these lines, and then the rest comes; the last line may lack its LF, with no rest then
@@ -73,13 +65,6 @@ pub record HasLine (passed : ℕ) (rest : List ℕ) : Type 0 where
 pub record HasBadLine (rest : List ℕ) (column : ℕ) : Type 0 where
   pub outside : (s : Scripted) → IsLineOf s (line_of rest) → ⊥
   pub first_bad : IsColumn (line_of rest) column
-
--- the first line of octets is an event that is not built
-pub record HasUnbuiltLine (rest : List ℕ) : Type 0 where
-  pub event : Event
-  pub in_range : IsScripted event
-  pub spelled : line_of rest ≡ event_text event
-  pub unbuilt : is_built event ≡ true → ⊥
 
 -- why no line came, by the status: what was to be read, how many octets were passed before, and what is left at the source
 abbrev pub IsUnread : Status → Option (List ℕ) → ℕ → Option (List ℕ) → Type 0

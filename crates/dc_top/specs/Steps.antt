@@ -1,5 +1,5 @@
--- Events given to a world, one after another, and their lines written.
-use Rattle.std.specs.Prelude.{◌≡◌, ℕ, ◌⊎◌, true, List, [], ◌∷◌, ◌++◌, take, Option, Some, None, ⊤}
+-- Events given to the nodes, one after another, and their lines written.
+use Rattle.std.specs.Prelude.{◌≡◌, ℕ, ◌⊎◌, List, [], ◌∷◌, ◌++◌, take, Option, Some, None, ⊤}
 use Rattle.std.specs.List.{flat_map}
 use Rattle.std.specs.Io.KnownBytes.{Appends}
 use Rattle.dc_base.specs.declared.answers.Status.{Status}
@@ -13,13 +13,10 @@ use Rattle.transcript.specs.Text.{lines_text}
 use Rattle.transcript.specs.Transcript.{entry_lines}
 use Rattle.script_text.specs.declared.scripted.Scripted.{Scripted}
 use Rattle.script_text.specs.declared.scripted.Scripted.TheVariants.{One, Drain}
-use Rattle.dc_world.specs.Links.{first_nonempty}
-use Rattle.dc_world.specs.Run.{WorldState, Kept, new_world, happen, entries_from, kept_after, counted, IsWithin, is_built}
-use Rattle.dc_top.specs.Script.{IsBuilt}
-
--- how many routing policies there are
-abbrev pub policies : ℕ
-policies = 2
+use Rattle.node_rules.specs.Choices.{Choices}
+use Rattle.node_rules.specs.Run.{entries_from, world_step}
+use Rattle.node_rules.specs.World.{World, first_loaded, new_world}
+use Rattle.dc_network.specs.Counting.{Counted, IsWithin, counted, counts_of_both}
 
 -- a text was not written whole, by the status: none of it, or a front where the sink failed
 abbrev pub IsUnwritten : Status → List ℕ → Option (List ℕ) → Option (List ℕ) → Type 0
@@ -27,78 +24,78 @@ IsUnwritten status.Memory text old new = Appends old new []
 IsUnwritten status.WriteFault text old new = AppendsFront old new text
 IsUnwritten _ text old new = ⊥
 
--- a world at its start
-abbrev pub start : Header → Kept
-start h = record { state = new_world h; lines = [] }
+-- the nodes and the links between them, and what all lines since the start count
+pub record Counting : Type 0 where
+  pub world : World
+  pub counts : Counted
 
--- a world after events
-abbrev pub kept_after_all : Kept → List Event → Kept
-kept_after_all k [] = k
-kept_after_all k (e ∷ es) = kept_after_all (kept_after policies k e) es
+-- at the start
+abbrev pub start : Header → Counting
+start h = record { world = new_world h; counts = counted [] }
+
+-- after one more event
+abbrev pub counting_after : Choices → Counting → Event → Counting
+counting_after c k e =
+    let next = world_step c k.world e in
+    record { world = next.0; counts = counts_of_both k.counts (counted (entry_lines next.1)) }
+
+-- after events
+abbrev pub counting_after_all : Choices → Counting → List Event → Counting
+counting_after_all c k [] = k
+counting_after_all c k (e ∷ es) = counting_after_all c (counting_after c k e) es
 
 -- the text of the entries that events make
-abbrev pub events_text : WorldState → List Event → List ℕ
-events_text w es = lines_text (flat_map entry_lines (entries_from policies w es))
+abbrev pub events_text : Choices → World → List Event → List ℕ
+events_text c w es = lines_text (flat_map entry_lines (entries_from c w es))
 
 -- the event is the step of the first flight on the first link on which one stands
-pub record IsFirstStep (w : WorldState) (e : Event) : Type 0 where
+pub record IsFirstStep (w : World) (e : Event) : Type 0 where
   pub link : LinkId
-  pub first : first_nonempty w.links ≡ Some link
+  pub first : first_loaded w.links ≡ Some link
   pub step : e ≡ Step link 0
 
 -- each event is so in its turn
-abbrev pub AreFirstSteps : WorldState → List Event → Type 0
-AreFirstSteps w [] = ⊤
-AreFirstSteps w (e ∷ es) = IsFirstStep w e × AreFirstSteps (happen policies w e).0 es
+abbrev pub AreFirstSteps : Choices → World → List Event → Type 0
+AreFirstSteps c w [] = ⊤
+AreFirstSteps c w (e ∷ es) = IsFirstStep w e × AreFirstSteps c (world_step c w e).0 es
 
 -- the events of a line: its own, or the steps of a drain until no flight stands on any link
-abbrev pub AreEventsOf : Scripted → Kept → List Event → Type 0
-AreEventsOf (One e) k es = es ≡ e ∷ []
-AreEventsOf Drain k es = AreFirstSteps k.state es × (first_nonempty (kept_after_all k es).state.links ≡ None)
+abbrev pub AreEventsOf : Choices → Scripted → Counting → List Event → Type 0
+AreEventsOf c (One e) k es = es ≡ e ∷ []
+AreEventsOf c Drain k es = AreFirstSteps c k.world es × (first_loaded (counting_after_all c k es).world.links ≡ None)
 
 -- a front of them
-abbrev pub AreBegun : Scripted → Kept → List Event → Type 0
-AreBegun (One e) k es = (es ≡ []) ⊎ (es ≡ e ∷ [])
-AreBegun Drain k es = AreFirstSteps k.state es
+abbrev pub AreBegun : Choices → Scripted → Counting → List Event → Type 0
+AreBegun c (One e) k es = (es ≡ []) ⊎ (es ≡ e ∷ [])
+AreBegun c Drain k es = AreFirstSteps c k.world es
 
 -- events were run, and their text was written whole
-pub record HasRun (k : Kept) (es : List Event) (k' : Kept) (old new : Option (List ℕ)) : Type 0 where
-  pub world : k' ≡ kept_after_all k es
-  pub within : IsWithin (counted k'.lines)
-  pub written : Appends old new (events_text k.state es)
+pub record HasRun (c : Choices) (k : Counting) (es : List Event) (k' : Counting) (old new : Option (List ℕ)) : Type 0 where
+  pub after : k' ≡ counting_after_all c k es
+  pub within : IsWithin k'.counts
+  pub written : Appends old new (events_text c k.world es)
 
 -- events were run and written, and the one after them ended the run: what was put out then, by the status
-abbrev pub HasStopped : Status → Kept → List Event → Event → Option (List ℕ) → Option (List ℕ) → Type 0
-HasStopped status.Memory k es e old new = IsWithin (counted (kept_after_all k es).lines) × Appends old new (events_text k.state es)
-HasStopped status.TooLong k es e old new =
-    IsWithin (counted (kept_after_all k es).lines) × (IsWithin (counted (kept_after_all k (es ++ e ∷ [])).lines) → ⊥) × Appends old new (events_text k.state es)
-HasStopped status.WriteFault k es e old new =
-    (n : ℕ) × IsWithin (counted (kept_after_all k (es ++ e ∷ [])).lines)
-    × Appends old new (events_text k.state es ++ take n (events_text (kept_after_all k es).state (e ∷ [])))
-HasStopped _ k es e old new = ⊥
+abbrev pub HasStopped : Choices → Status → Counting → List Event → Event → Option (List ℕ) → Option (List ℕ) → Type 0
+HasStopped c status.Memory k es e old new = IsWithin (counting_after_all c k es).counts × Appends old new (events_text c k.world es)
+HasStopped c status.TooLong k es e old new =
+    IsWithin (counting_after_all c k es).counts × (IsWithin (counting_after_all c k (es ++ e ∷ [])).counts → ⊥) × Appends old new (events_text c k.world es)
+HasStopped c status.WriteFault k es e old new =
+    (n : ℕ) × IsWithin (counting_after_all c k (es ++ e ∷ [])).counts
+    × Appends old new (events_text c k.world es ++ take n (events_text c (counting_after_all c k es).world (e ∷ [])))
+HasStopped c _ k es e old new = ⊥
 
 -- a run ended so in the steps of a drain
-pub record HasStoppedDraining (s : Status) (k : Kept) (old new : Option (List ℕ)) : Type 0 where
+pub record HasStoppedDraining (c : Choices) (s : Status) (k : Counting) (old new : Option (List ℕ)) : Type 0 where
   pub before : List Event
   pub event : Event
-  pub steps : AreFirstSteps k.state (before ++ event ∷ [])
-  pub stopped : HasStopped s k before event old new
+  pub steps : AreFirstSteps c k.world (before ++ event ∷ [])
+  pub stopped : HasStopped c s k before event old new
 
 -- a run ended so in the events of a line
-pub record HasStoppedIn (s : Status) (line : Scripted) (k : Kept) (old new : Option (List ℕ)) : Type 0 where
+pub record HasStoppedIn (c : Choices) (s : Status) (line : Scripted) (k : Counting) (old new : Option (List ℕ)) : Type 0 where
   pub before : List Event
   pub event : Event
-  pub built : IsBuilt line
-  pub begun : AreBegun line k before
-  pub next : AreBegun line k (before ++ event ∷ [])
-  pub stopped : HasStopped s k before event old new
-
--- a line is an event that is not built
-abbrev pub IsUnbuilt : Scripted → Type 0
-IsUnbuilt (One e) = is_built e ≡ true → ⊥
-IsUnbuilt Drain = ⊥
-
--- why a line was not run to its end, by the status
-abbrev pub HasEndedAt : Status → Scripted → Kept → Option (List ℕ) → Option (List ℕ) → Type 0
-HasEndedAt status.NotBuilt line k old new = IsUnbuilt line × Appends old new []
-HasEndedAt s line k old new = HasStoppedIn s line k old new
+  pub begun : AreBegun c line k before
+  pub next : AreBegun c line k (before ++ event ∷ [])
+  pub stopped : HasStopped c s k before event old new

@@ -3,6 +3,8 @@
 ghost use Rattle.std.specs.Prelude.{◌≡◌, ◌↔◌, ◌⊎◌, ℕ, List, Some, IsTrue, map, string_bytes};
 ghost use Rattle.dc_base.specs.declared.answers.Status.{Status};
 ghost use Rattle.dc_outside.specs.Faults.{Rose};
+ghost use Rattle.split_leg.specs.Stored.{margins};
+ghost use Rattle.node_rules.specs.Choices.{by_policies};
 ghost use Rattle.dc_top.specs.Command.{HasWritten, IsRun, IsNoOther};
 ghost use Rattle.dc_top.specs.Ended.{HasEnded};
 
@@ -11,6 +13,7 @@ use crate::running::run_script;
 use dc_base::Status;
 use dc_forms::run_form;
 use dc_outside::{Sink, Source};
+use split_leg::Policies;
 use std::alloc::Global;
 
 /// Whether the words are the form that reads a script: `run`.
@@ -24,14 +27,16 @@ fn is_run(words: &[String]) -> bool
 }
 
 /// Runs the script that the source gives, and writes its transcript.
-fn run<S: Source, K: Sink>(alloc: Global, src: &mut S, out: &mut K) -> Status
+fn run<S: Source, K: Sink>(alloc: Global, src: &mut S, out: &mut K, policies: &Policies) -> Status
     ensures ended { (input : List ℕ) → S.left src.old ≡ Some input
-        → HasEnded input result (S.left src.new) (K.put_out out.old) (K.put_out out.new) }
+        → HasEnded (by_policies (margins policies.now)) input result (S.left src.new) (K.put_out out.old) (K.put_out out.new) }
+    ensures no_read_fault { result ≡ Status.Ok → S.fault_count src.new ≡ S.fault_count src.old }
+    ensures no_write_fault { result ≡ Status.Ok → K.fault_count out.new ≡ K.fault_count out.old }
     ensures read_fault { result ≡ Status.ReadFault → Rose (S.fault_count src.old) (S.fault_count src.new) }
     ensures write_fault { result ≡ Status.WriteFault → Rose (K.fault_count out.old) (K.fault_count out.new) }
     ensures others { result ≡ Status.Usage → ⊥ }
 {
-    match run_script(alloc, src, out) {
+    match run_script(alloc, src, out, policies) {
         Ok(()) => Status::Ok,
         Err(status) => status,
     }
@@ -42,6 +47,7 @@ fn write_form<K: Sink>(alloc: Global, words: &[String], out: &mut K) -> Status
     ensures written { HasWritten (map string_bytes words.now) result (K.put_out out.old) (K.put_out out.new) }
     ensures usage { result ≡ Status.Usage → IsNoOther (map string_bytes words.now) }
     ensures no_form { IsNoOther (map string_bytes words.now) → (result ≡ Status.Usage) ⊎ (result ≡ Status.Memory) }
+    ensures no_fault { result ≡ Status.Ok → K.fault_count out.new ≡ K.fault_count out.old }
     ensures fault { result ≡ Status.WriteFault → Rose (K.fault_count out.old) (K.fault_count out.new) }
     ensures others { result ≡ Status.ReadFault → ⊥ }
 {
@@ -56,24 +62,29 @@ fn write_form<K: Sink>(alloc: Global, words: &[String], out: &mut K) -> Status
 }
 
 /// The top call: runs the program on the words of its command line, without its name, and answers the status that it
-/// ends with. `run` reads a script from `src` and writes the transcript to `out`. `keys`, `nea2` and `show` write what
-/// their words say, and read nothing. Any other words are `Usage`. A fault text goes to `err`, whose faults change
-/// nothing.
+/// ends with. `run` reads a script from `src` and writes the transcript to `out`; its bearers name the stored policies by
+/// their numbers. `keys`, `nea2` and `show` write what their words say, and read nothing. Any other words are `Usage`. A fault
+/// text goes to `err`, whose faults change nothing.
 pub fn run_command<S: Source, K: Sink, E: Sink>(
     alloc: Global,
     words: &[String],
     src: &mut S,
     out: &mut K,
     err: &mut E,
+    policies: &Policies,
 ) -> Status
     // A run: what was written, where source and sink tell their octets. The run theorem stands here.
     ensures ended { IsRun (map string_bytes words.now) → (input : List ℕ) → S.left src.old ≡ Some input
-        → HasEnded input result (S.left src.new) (K.put_out out.old) (K.put_out out.new) }
+        → HasEnded (by_policies (margins policies.now)) input result (S.left src.new) (K.put_out out.old) (K.put_out out.new) }
 
     // Another form, or none: what was written, and that nothing was read.
     ensures written { (IsRun (map string_bytes words.now) → ⊥)
         → HasWritten (map string_bytes words.now) result (K.put_out out.old) (K.put_out out.new) }
     ensures unread { (IsRun (map string_bytes words.now) → ⊥) → src.new ≡ src.old }
+
+    // With Ok no read and no write failed.
+    ensures no_read_fault { result ≡ Status.Ok → S.fault_count src.new ≡ S.fault_count src.old }
+    ensures no_write_fault { result ≡ Status.Ok → K.fault_count out.new ≡ K.fault_count out.old }
 
     // When the answers other than Ok come.
     ensures usage { result ≡ Status.Usage → (IsRun (map string_bytes words.now) → ⊥) × IsNoOther (map string_bytes words.now) }
@@ -86,7 +97,7 @@ pub fn run_command<S: Source, K: Sink, E: Sink>(
     ensures quiet { result ≡ Status.Ok → err.new ≡ err.old }
 {
     let status = if is_run(words) {
-        run(alloc, src, out)
+        run(alloc, src, out, policies)
     } else {
         write_form(alloc, words, out)
     };

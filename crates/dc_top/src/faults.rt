@@ -48,6 +48,5 @@ pub fn write_fault<E: Sink>(alloc: Global, status: Status, err: &mut E)
         Status::WriteFault => err.write_all(b"dc: write fault\n"),
         Status::Memory => err.write_all(b"dc: out of memory\n"),
         Status::TooLong => err.write_all(b"dc: too long\n"),
-        Status::NotBuilt => err.write_all(b"dc: not built\n"),
     };
 }

@@ -2,7 +2,9 @@
 #![tactic(auto)]
 
 mod command;
+mod counted_network;
 mod faults;
+mod policies;
 mod reading;
 mod running;
 mod stepping;
@@ -10,6 +12,7 @@ mod writing;
 
 pub use command::run_command;
 pub use faults::write_fault;
+pub use policies::{even, second, shipped};
 
 #[cfg(test)]
 mod tests;

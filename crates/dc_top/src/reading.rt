@@ -1,10 +1,10 @@
 //! The lines of a script, read one by one.
 
-ghost use Rattle.std.specs.Prelude.{◌≡◌, ◌+◌, ◌≤◌, length, IfErr, IfNone, IfOk, IfSome, IsErrOf, OnOk};
+ghost use Rattle.std.specs.Prelude.{◌≡◌, ◌+◌, ◌≤◌, false, length, true, IfErr, IfNone, IfOk, IfSome, IsErrOf, None, Ok, OnOk};
 ghost use Rattle.std.specs.Io.KnownBytes.{IsAtEnd};
 ghost use Rattle.dc_base.specs.declared.answers.Status.{Status};
 ghost use Rattle.dc_outside.specs.Faults.{Rose};
-ghost use Rattle.dc_text.specs.Lines.{GivesLine, input, span};
+ghost use Rattle.dc_text.specs.Lines.{GivesLine, input, span, taken_by};
 ghost use Rattle.transcript.specs.Text.{header_text};
 ghost use Rattle.script_text.specs.Scripts.{IsScriptHeader};
 ghost use Rattle.dc_top.specs.Script.{IsInRange, IsUnread, IsUnreadHeader, IsUnreadLine, script_line, most_line, most_octets};
@@ -20,7 +20,11 @@ use std::alloc::Global;
 fn next_line<S: Source>(reader: &mut LineReader, src: &mut S) -> Result<Option<Octets>, Status>
     ensures line { IfOk result (λ found. IfSome found (λ line.
         GivesLine (input reader.old (S.left src.old)) (input reader.new (S.left src.new)) line)) }
-    ensures end { IfOk result (λ found. IfNone found (IsAtEnd (input reader.old (S.left src.old)))) }
+    ensures end { reader.old.ended ≡ false → IfOk result (λ found. IfNone found
+        (IsAtEnd (input reader.old (S.left src.old)) × IsAtEnd (input reader.new (S.left src.new)))) }
+    ensures last { IfOk result (λ found. IfSome found (λ line. IfSome (input reader.old (S.left src.old))
+        (λ octets. span octets ≡ taken_by line reader.new.ended))) }
+    ensures after_end { reader.old.ended ≡ true → (result ≡ Ok None) × (reader.new ≡ reader.old) × (src.new ≡ src.old) }
     ensures short { IfOk result (λ found. IfSome found (λ line. length line ≤ most_line)) }
     ensures total { reader.new.passed ≤ most_octets }
     ensures passed { IfOk result (λ found. IfSome found (λ _. IfSome (input reader.old (S.left src.old))
@@ -41,9 +45,12 @@ fn next_line<S: Source>(reader: &mut LineReader, src: &mut S) -> Result<Option<O
 
 /// Reads the first line, which is to be a header. An input without a line is bad at line 1, column 1.
 pub fn take_header<S: Source>(reader: &mut LineReader, src: &mut S) -> Result<Header, Status>
+    requires { reader.old.ended ≡ false }
     ensures header { IfOk result (λ h. IsScriptHeader h) }
     ensures line { IfOk result (λ h.
         GivesLine (input reader.old (S.left src.old)) (input reader.new (S.left src.new)) (header_text h)) }
+    ensures last { IfOk result (λ h. IfSome (input reader.old (S.left src.old))
+        (λ octets. span octets ≡ taken_by (header_text h) reader.new.ended)) }
     ensures total { reader.new.passed ≤ most_octets }
     ensures passed { OnOk result (IfSome (input reader.old (S.left src.old))
         (λ octets. reader.new.passed ≡ reader.old.passed + span octets)) }
@@ -73,7 +80,11 @@ pub fn take_line<S: Source>(
     ensures short { IfOk result (λ found. IfSome found (λ line. length (script_line line) ≤ most_line)) }
     ensures line { IfOk result (λ found. IfSome found (λ line.
         GivesLine (input reader.old (S.left src.old)) (input reader.new (S.left src.new)) (script_line line))) }
-    ensures end { IfOk result (λ found. IfNone found (IsAtEnd (input reader.old (S.left src.old)))) }
+    ensures end { reader.old.ended ≡ false → IfOk result (λ found. IfNone found
+        (IsAtEnd (input reader.old (S.left src.old)) × IsAtEnd (input reader.new (S.left src.new)))) }
+    ensures last { IfOk result (λ found. IfSome found (λ line. IfSome (input reader.old (S.left src.old))
+        (λ octets. span octets ≡ taken_by (script_line line) reader.new.ended))) }
+    ensures after_end { reader.old.ended ≡ true → (result ≡ Ok None) × (reader.new ≡ reader.old) × (src.new ≡ src.old) }
     ensures total { reader.new.passed ≤ most_octets }
     ensures passed { IfOk result (λ found. IfSome found (λ _. IfSome (input reader.old (S.left src.old))
         (λ octets. reader.new.passed ≡ reader.old.passed + span octets))) }

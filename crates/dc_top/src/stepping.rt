@@ -1,105 +1,99 @@
-//! The events of a line, given to the world one after another, each with its text written as it happens.
+//! The events of a line, given to the nodes one after another, each with its text written as it happens.
 
-ghost use Rattle.std.specs.Prelude.{◌≡◌, ◌↔◌, List, [], ◌∷◌, true, IfErr, IsErrOf, IsTrue, None, OnOk};
+ghost use Rattle.std.specs.Prelude.{◌≡◌, List, [], ◌∷◌, IfErr, IsErrOf, None, OnOk};
 ghost use Rattle.dc_base.specs.declared.answers.Status.{Status};
 ghost use Rattle.dc_base.specs.declared.events.Event.{Event};
 ghost use Rattle.dc_outside.specs.Faults.{Rose};
-ghost use Rattle.dc_world.specs.Links.{first_nonempty};
-ghost use Rattle.dc_world.specs.Run.{IsGood, IsWithin, counted, is_built};
-ghost use Rattle.dc_top.specs.Script.{IsInRange, IsBuilt};
-ghost use Rattle.dc_top.specs.Steps.{AreEventsOf, AreFirstSteps, HasEndedAt, HasRun, HasStopped, HasStoppedDraining};
+ghost use Rattle.split_leg.specs.Stored.{margins};
+ghost use Rattle.node_rules.specs.Choices.{by_policies};
+ghost use Rattle.node_rules.specs.World.{first_loaded};
+ghost use Rattle.dc_network.specs.Counting.{IsWithin};
+ghost use Rattle.dc_top.specs.Steps.{AreEventsOf, AreFirstSteps, HasRun, HasStopped, HasStoppedDraining, HasStoppedIn, counting_after, events_text};
 
-use crate::writing::write_lines;
-use dc_base::{Event, Octets, Status};
+use crate::counted_network::CountedNetwork;
+use crate::writing::{add_event, add_happened, write_text};
+use dc_base::{Event, Memory, Octets, Status};
 use dc_outside::Sink;
-use dc_world::{Counts, World, is_built};
 use script_text::Scripted;
+use split_leg::Policies;
 
-/// How many routing policies there are.
-const POLICIES: usize = 2;
-
-/// The most events of a run.
-const MAX_EVENTS: u64 = 1 << 20;
-
-/// The most flights of a run.
-const MAX_FLIGHTS: u64 = 1 << 22;
-
-/// The most octets of its flights: 256 MiB.
-const MAX_FLIGHT_OCTETS: u64 = 1 << 28;
-
-/// Whether counts are within the limits.
-fn is_within(counts: Counts) -> bool
-    ensures { IsTrue result ↔ IsWithin (record { events = counts.events; flights = counts.flights; octets = counts.octets }) }
+/// An event happens, and its text stands in the buffer.
+fn happen(
+    network: &mut CountedNetwork,
+    event: Event,
+    policies: &Policies,
+    text: &mut Octets,
+) -> Result<(), Memory>
+    ensures after { OnOk result (network.new ≡ counting_after (by_policies (margins policies.now)) network.old event) }
+    ensures text { OnOk result (text.new ≡ events_text (by_policies (margins policies.now)) network.old.world (event ∷ [])) }
 {
-    counts.events <= MAX_EVENTS
-        && counts.flights <= MAX_FLIGHTS
-        && counts.octets <= MAX_FLIGHT_OCTETS
+    text.clear();
+    add_event(text, &event)?;
+    let happened = network.event(event, policies)?;
+    add_happened(text, &happened)
 }
 
 /// One event, with its text, which is made in the buffer. Past a limit nothing is written.
 fn run_event<K: Sink>(
-    world: &mut World,
-    event: &Event,
+    network: &mut CountedNetwork,
+    event: Event,
+    policies: &Policies,
     text: &mut Octets,
     out: &mut K,
 ) -> Result<(), Status>
-    requires good { IsGood event.now }
-    requires built { is_built event.now ≡ true }
-    requires within { IsWithin (counted world.old.lines) }
-    ensures ran { OnOk result (HasRun world.old (event.now ∷ []) world.new (K.put_out out.old) (K.put_out out.new)) }
-    ensures stopped { IfErr result (λ s. HasStopped s world.old [] event.now (K.put_out out.old) (K.put_out out.new)) }
+    requires within { IsWithin network.old.counts }
+    ensures ran { OnOk result (HasRun (by_policies (margins policies.now)) network.old (event ∷ []) network.new (K.put_out out.old) (K.put_out out.new)) }
+    ensures stopped { IfErr result (λ s. HasStopped (by_policies (margins policies.now)) s network.old [] event (K.put_out out.old) (K.put_out out.new)) }
     ensures kept { OnOk result (K.fault_count out.new ≡ K.fault_count out.old) }
     ensures fault { IsErrOf result Status.WriteFault → Rose (K.fault_count out.old) (K.fault_count out.new) }
 {
-    let before = world.lines().len();
-    if world.event(event, POLICIES).is_err() {
+    let Ok(()) = happen(network, event, policies, text) else {
         return Err(Status::Memory);
-    }
-    if !is_within(world.counts()) {
+    };
+    if !network.is_within() {
         return Err(Status::TooLong);
     }
-    write_lines(text, &world.lines().as_slice()[before..], out)
+    write_text(text.as_slice(), out)
 }
 
 /// Steps of the first flight on the first link on which one stands, until none stands on any.
-fn drain<K: Sink>(world: &mut World, text: &mut Octets, out: &mut K) -> Result<(), Status>
-    requires { IsWithin (counted world.old.lines) }
-    ensures ran { OnOk result ((es : List Event) × AreFirstSteps world.old.state es
-        × HasRun world.old es world.new (K.put_out out.old) (K.put_out out.new)) }
-    ensures empty { OnOk result (first_nonempty world.new.state.links ≡ None) }
-    ensures stopped { IfErr result (λ s. HasStoppedDraining s world.old (K.put_out out.old) (K.put_out out.new)) }
+fn drain<K: Sink>(
+    network: &mut CountedNetwork,
+    policies: &Policies,
+    text: &mut Octets,
+    out: &mut K,
+) -> Result<(), Status>
+    requires { IsWithin network.old.counts }
+    ensures ran { OnOk result ((es : List Event) × AreFirstSteps (by_policies (margins policies.now)) network.old.world es
+        × HasRun (by_policies (margins policies.now)) network.old es network.new (K.put_out out.old) (K.put_out out.new)) }
+    ensures empty { OnOk result (first_loaded network.new.world.links ≡ None) }
+    ensures stopped { IfErr result (λ s. HasStoppedDraining (by_policies (margins policies.now)) s network.old (K.put_out out.old) (K.put_out out.new)) }
     ensures kept { OnOk result (K.fault_count out.new ≡ K.fault_count out.old) }
     ensures fault { IsErrOf result Status.WriteFault → Rose (K.fault_count out.old) (K.fault_count out.new) }
 {
-    while let Some(link) = world.first_nonempty() {
-        run_event(world, &Event::Step { link, index: 0 }, text, out)?;
+    while let Some(link) = network.first_loaded() {
+        run_event(network, Event::Step { link, index: 0 }, policies, text, out)?;
     }
     Ok(())
 }
 
 /// A line, run to its end.
 pub fn run_line<K: Sink>(
-    world: &mut World,
-    line: &Scripted,
+    network: &mut CountedNetwork,
+    line: Scripted,
+    policies: &Policies,
     text: &mut Octets,
     out: &mut K,
 ) -> Result<(), Status>
-    requires in_range { IsInRange line.now }
-    requires within { IsWithin (counted world.old.lines) }
-    ensures ran { OnOk result ((es : List Event) × AreEventsOf line.now world.old es
-        × HasRun world.old es world.new (K.put_out out.old) (K.put_out out.new)) }
-    ensures built { OnOk result (IsBuilt line.now) }
-    ensures ended { IfErr result (λ s. HasEndedAt s line.now world.old (K.put_out out.old) (K.put_out out.new)) }
+    requires { IsWithin network.old.counts }
+    ensures ran { OnOk result ((es : List Event) × AreEventsOf (by_policies (margins policies.now)) line network.old es
+        × HasRun (by_policies (margins policies.now)) network.old es network.new (K.put_out out.old) (K.put_out out.new)) }
+    ensures stopped { IfErr result (λ s. HasStoppedIn (by_policies (margins policies.now)) s line network.old (K.put_out out.old) (K.put_out out.new)) }
     ensures kept { OnOk result (K.fault_count out.new ≡ K.fault_count out.old) }
     ensures fault { IsErrOf result Status.WriteFault → Rose (K.fault_count out.old) (K.fault_count out.new) }
 {
     match line {
-        Scripted::Drain => drain(world, text, out),
-        Scripted::One(event) => {
-            if !is_built(event) {
-                return Err(Status::NotBuilt);
-            }
-            run_event(world, event, text, out)
-        }
+        Scripted::Drain => drain(network, policies, text, out),
+        Scripted::One(event) => run_event(network, event, policies, text, out),
     }
 }

@@ -1,4 +1,5 @@
 use super::run_command;
+use crate::shipped_policies;
 use dc_base::Status;
 use dc_outside::{MemSink, MemSource};
 use std::alloc::Global;
@@ -86,7 +87,9 @@ fn call(
     let mut src = MemSource::new(input.to_vec(alloc)?, vec![in alloc; bad_read]?);
     let mut out = MemSink::new(vec![in alloc; 0; 200_000]?, vec![in alloc; bad_write]?);
     let mut err = MemSink::new(vec![in alloc; 0; 400]?, Vec::new(alloc));
-    let status = run_command(alloc, line.as_slice(), &mut src, &mut out, &mut err);
+    let policies = shipped_policies!(alloc)?;
+    let words = line.as_slice();
+    let status = run_command(alloc, words, &mut src, &mut out, &mut err, &policies);
     Ok(Left {
         status,
         out: out.octets().to_vec(alloc)?,
@@ -163,8 +166,10 @@ fn bad_lines_and_their_columns(rt: HostRuntime) -> Result<(), Fail> {
 
 #[test]
 fn events_and_what_they_write(rt: HostRuntime) -> Result<(), Fail> {
-    let rows: [(&[u8], &str); 9] = [
+    let rows: [(&[u8], &str); 11] = [
         (b"dl 1 00", "> dl 1 00\n= no nobearer\n"),
+        (b"change", "> change\n= no nosecondary\n"),
+        (b"add a", "> add a\n= ok\n- send ma.ctl addreq 1 a\n"),
         (b"step mt.air 0", "> step mt.air 0\n= no noflight\n"),
         (b"lose mt.air 0", "> lose mt.air 0\n= no nottunnel\n"),
         (
@@ -202,18 +207,12 @@ fn events_and_what_they_write(rt: HostRuntime) -> Result<(), Fail> {
 }
 
 #[test]
-fn a_line_too_long_and_an_event_that_is_not_built(rt: HostRuntime) -> Result<(), Fail> {
+fn a_line_too_long(rt: HostRuntime) -> Result<(), Fail> {
     let long = vec![in rt.alloc(); b'0'; 20_001]?;
-    let rows: [(&[u8], Status, &[u8]); 2] = [
-        (long.as_slice(), Status::TooLong, b"dc: too long\n"),
-        (b"change\n", Status::NotBuilt, b"dc: not built\n"),
-    ];
-    for (lines, status, err) in rows {
-        let left = run_lines(rt.alloc(), lines)?;
-        assert_eq!(rt; left.status, status);
-        assert_eq!(rt; left.out.as_slice(), HEADER);
-        assert_eq!(rt; left.err.as_slice(), err);
-    }
+    let left = run_lines(rt.alloc(), long.as_slice())?;
+    assert_eq!(rt; left.status, Status::TooLong);
+    assert_eq!(rt; left.out.as_slice(), HEADER);
+    assert_eq!(rt; left.err.as_slice(), b"dc: too long\n".as_slice());
     Ok(())
 }
 

@@ -133,7 +133,7 @@ reconfigured s g outside = no_second_row kind.Recfg
 reconfigured s g joined = Ok (s, unlock_all g ∷ [])
 reconfigured s g left = no_second_row kind.Recfg
 
--- a status transfer for its waiting anchor (TS 38.423, 8.2.4)
+-- a status transfer for its waiting anchor (TS 38.423, 8.2.2)
 abbrev pub status_passed : SecondProc → StatusTransfer → Membership → Result SecondActs ProcFault
 status_passed s status outside = no_second_row kind.Snst
 status_passed s status joined = Ok (s, pass status ∷ [])

@@ -12,6 +12,6 @@ mod spelling;
 mod tests;
 mod words;
 
-pub use lines::{write_first, write_line, write_lines};
+pub use lines::{write_event, write_first, write_line, write_lines};
 pub use reading::{read_header, read_line};
 pub use scripted::{LineFault, Scripted};

@@ -83,8 +83,8 @@ fn write_bare(out: &mut Octets, line: &Line) -> Result<(), Memory>
     }
 }
 
-/// Writes an event.
-fn write_event(out: &mut Octets, event: &Event) -> Result<(), Memory>
+/// Writes an event as a script has it, without its mark and its end. The only error is want of memory.
+pub fn write_event(out: &mut Octets, event: &Event) -> Result<(), Memory>
     ensures { OnOk result (out.new ≡ out.old ++ event_text event.now) }
 {
     match event {

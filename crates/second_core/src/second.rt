@@ -13,7 +13,6 @@ mod anchors;
 mod events;
 mod flights;
 mod line;
-mod parts;
 mod plans;
 mod records;
 

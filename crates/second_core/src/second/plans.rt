@@ -11,12 +11,11 @@ ghost use Rattle.node_rules.specs.Setup.{setup_of};
 ghost use Rattle.second_core.specs.Steps.{awaited_there};
 
 use super::Second;
-use super::parts::{host_at, item_id, part_at};
 use crate::feed::{FedAnchor, FrozenAnchor};
 use anchor::{Anchor, FreezeOut};
 use dc_base::{DrbId, Gen, Item, Memory, Node, Note, Plan, Rec, StatusTransfer};
 use leg_host::LegHost;
-use node_parts::{add, noted, quiet, sends_alone, told};
+use node_parts::{add, host_at, item_id, noted, part_at, quiet, sends_alone, told};
 use node_rules::{Effects, Part};
 use pdcp_entity::Setup;
 

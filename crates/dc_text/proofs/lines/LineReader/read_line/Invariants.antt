@@ -1,4 +1,4 @@
-use Rattle.std.proofs.Common.{◌≡◌, ◌-◌, ◌≤◌, ◌++◌, length}
+use Rattle.std.proofs.Common.{◌≡◌, ◌-◌, ◌≤◌, ◌++◌, false, length}
 use Rattle.std.specs.Io.KnownBytes.{Keeps, prepend_known}
 use Rattle.dc_text.specs.Lines.{HasNoLineFeed, input}
 use Rattle.dc_text.proofs.lines.LineReader.read_line.Given as goal
@@ -11,6 +11,7 @@ invariant-loop-line g l =
     × (length l.line ≤ 20000)
     × (l.self.passed ≡ l.fn.self.passed)
     × (length l.self.held ≤ 65536)
+    × (l.self.ended ≡ false)
     × (g.S.Source.fault_count l.source ≡ g.S.Source.fault_count l.fn.source)
 
 abbrev pub decreases-loop-line : goal.decreases-loop-line

@@ -1,0 +1,6 @@
+pub mod SameLink
+pub mod Flights
+pub mod OwnInputs
+pub mod Steps
+pub mod Standing
+pub mod Running

@@ -1,0 +1,5 @@
+pub mod OnEach
+pub mod Stamps
+pub mod Finding
+pub mod Orders
+pub mod Before

@@ -1,0 +1,5 @@
+-- what the answers share
+pub mod Cases
+pub mod Maps
+pub mod Moves
+pub mod Turns

@@ -1,0 +1,6 @@
+-- what stands on the links
+pub mod Standing
+-- the order of an event's lines
+pub mod Sorted
+-- who sends on which kind of link
+pub mod Senders
