@@ -45,7 +45,15 @@ pub fn run_script<S: Source, K: Sink>(
     let Ok(mut network) = CountedNetwork::new(alloc, &header) else {
         return Err(Status::Memory);
     };
-    run_lines(alloc, &mut reader, &mut network, src, policies, &mut text, out)
+    run_lines(
+        alloc,
+        &mut reader,
+        &mut network,
+        src,
+        policies,
+        &mut text,
+        out,
+    )
 }
 
 /// Runs the lines after the header, until the source is at its end.

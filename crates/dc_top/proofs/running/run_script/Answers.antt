@@ -40,7 +40,7 @@ returns-clause-ended g c = λ input told.
     let counted = rw (c.new-reader.ensures.held, c.new-reader.ensures.passed) at c.in_ok-header.ensures.passed in
     let ends = rw c.new-reader.ensures.held at c.in_ok-header.ensures.last in
     c.run_lines.ensures.ended _ _
-        (after_header (by_policies (margins c.args.policies.now)) c.in_ok-header.header c.in-Ok.network c.take_header.new.reader.passed c.take_header.new.reader.ended
-            (g.S.Source.left c.args.src.now) _ _ _ c.in_ok-header.ensures.header c.in-Ok.ensures
-            c.in_ok-write_first.ensures.written line counted ends c.in_ok-header.ensures.total)
-        input told
+    (after_header (by_policies (margins c.args.policies.now)) c.in_ok-header.header c.in-Ok.network c.take_header.new.reader.passed c.take_header.new.reader.ended
+    (g.S.Source.left c.args.src.now) _ _ _ c.in_ok-header.ensures.header c.in-Ok.ensures
+    c.in_ok-write_first.ensures.written line counted ends c.in_ok-header.ensures.total)
+    input told
