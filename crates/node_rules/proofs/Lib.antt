@@ -1,5 +1,5 @@
-mod OwnInputs
-mod Scripts
+pub mod OwnInputs
+pub mod Scripts
 mod Calls
 mod Rows1
 mod Rows2

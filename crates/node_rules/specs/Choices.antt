@@ -10,13 +10,14 @@ use Rattle.node_rules.specs.declared.inputs.Input.{Input}
 use Rattle.node_rules.specs.declared.inputs.Outcome.{Outcome}
 
 -- what was handed in: the two numbers of each stored routing policy, in the order of the policies' numbers, from 0
+-- (this product's own)
 pub record Choices : Type 0 where
   pub policies : List Margins
 
--- the choices of these policies
+-- the choices of these policies (this product's own)
 abbrev pub by_policies : List Margins → Choices
 by_policies policies = record { policies = policies }
 
--- a flight that is put at the end of a link
+-- a flight that is put at the end of a link (this product's own)
 abbrev pub Send : Type 0
 Send = LinkId × Flight

@@ -15,7 +15,7 @@ use Rattle.node_rules.specs.declared.commands.Row.{Row}
 use Rattle.node_rules.specs.declared.commands.Change.{Change}
 
 -- the secondary node, the book of root keys, SN Counters and claims, the current K_SN, the bearers by ascending identity, and
--- the generation drawn last; before the first K_SN the name of the current one does not matter
+-- the generation drawn last; before the first K_SN the name of the current one does not matter (this product's own)
 pub record Table : Type 0 where
   pub sec : Option Node
   pub book : Book
@@ -23,7 +23,7 @@ pub record Table : Type 0 where
   pub rows : List Row
   pub last : ℕ
 
--- the master's key of a root
+-- the master's key of a root (TS 33.501, 6.10; the name is this product's own)
 abbrev pub master_key_of : ℕ → KeyName
 master_key_of root = record { root = root; side = side.Master }
 
@@ -31,7 +31,7 @@ master_key_of root = record { root = root; side = side.Master }
 abbrev pub second_key_of : ℕ → ℕ → KeyName
 second_key_of root counter = record { root = root; side = side.Second counter }
 
--- the table before the first command, with so many SN Counters of the first root drawn before
+-- the table before the first command, with so many SN Counters of the first root drawn before (this product's own)
 abbrev pub new_table : ℕ → List ℕ → Table
 new_table used root = record {
   sec = None;
@@ -41,11 +41,11 @@ new_table used root = record {
   last = 0;
 }
 
--- the bearer of an identity
+-- the bearer of an identity (this product's own)
 abbrev pub row : Table → ℕ → Option Row
 row t id = find (λ r. r.id == id) t.rows
 
--- one more SN Counter of a root is drawn
+-- one more SN Counter of a root is drawn (TS 33.501, 6.10.3.1)
 abbrev pub with_counter : Book → ℕ → Book
 with_counter b root = record b { drawn = slice_set b.drawn root (counters_drawn b root + 1) }
 
@@ -53,23 +53,24 @@ with_counter b root = record b { drawn = slice_set b.drawn root (counters_drawn 
 abbrev pub is_counter_spent : Table → Bool
 is_counter_spent t = nat_lt 65535 (counters_drawn t.book t.book.current)
 
--- a bearer in its place by ascending identity, instead of one that was there
+-- a bearer in its place by ascending identity, instead of one that was there (part of the rule carried)
 abbrev pub with_row : Row → List Row → List Row
 with_row r [] = r ∷ []
 with_row r (x ∷ xs) = if x.id == r.id then r ∷ xs else if nat_lt r.id x.id then r ∷ x ∷ xs else x ∷ with_row r xs
 
 -- the establishment that an item sets: a new one of generation g without an old anchor, else that of the table
+-- (part of the rule carried)
 abbrev pub establishment : ℕ → Option Node → Option Row → ℕ
 establishment g None r = g
 establishment g (Some old) None = g
 establishment g (Some old) (Some r) = r.est
 
--- the claim of a key that an item makes, in a plan of generation g
+-- the claim of a key that an item makes, in a plan of generation g (part of the rule claimed)
 abbrev pub claims_of : Table → ℕ → Item → List Claim
 claims_of t g (item.Set id n first shape threshold policy key old) = record { id = id; key = key; est = establishment g old (row t id) } ∷ []
 claims_of t g (item.Unset id) = []
 
--- what an item of a plan of generation g and this secondary node makes of the bearers
+-- what an item of a plan of generation g and this secondary node makes of the bearers (part of the rule carried)
 abbrev pub rows_after : Table → ℕ → Option Node → List Row → Item → List Row
 rows_after t g sec rows (item.Set id n first shape threshold policy key old) =
     with_row (record { id = id; est = establishment g old (row t id); n = n; first = first; shape = shape; threshold = threshold; policy = policy; key = key; anchor = anchor_at sec shape; g = g }) rows
@@ -79,7 +80,7 @@ rows_after t g sec rows (item.Unset id) = filter (λ r. not (r.id == id)) rows
 abbrev pub claimed : Book → List Claim → Book
 claimed b claims = record b { claims = fold with_claim b.claims claims }
 
--- the table after a change was carried out
+-- the table after a change was carried out (TS 37.340, 10.2 to 10.5; the table is this product's own)
 abbrev pub carried : Table → Change → Table
 carried t c = record t {
   sec = c.plan.sec;
@@ -88,6 +89,6 @@ carried t c = record t {
   rows = fold (rows_after t c.plan.g c.plan.sec) t.rows c.plan.items;
 }
 
--- a key that the plan would set is claimed for that identity by another establishment
+-- a key that the plan would set is claimed for that identity by another establishment (TS 38.331, 5.3.5.6.5)
 abbrev pub is_spent_by : Table → Plan → Bool
 is_spent_by t p = list_any (λ c. is_spent t.book.claims c.id c.est c.key) (flat_map (claims_of t p.g) p.items)

@@ -19,7 +19,7 @@ use Rattle.node_rules.specs.declared.commands.First.{First}
 use Rattle.node_rules.specs.declared.commands.First.TheVariants.{Addition as addition, Modification as modification, Release as release}
 
 -- the change, the book once the command has drawn its root and its SN Counter, and the first record with the node that it
--- goes to; without one the change is carried out at once
+-- goes to; without one the change is carried out at once (this product's own)
 pub record Draft : Type 0 where
   pub change : Change
   pub book : Book
@@ -29,45 +29,46 @@ pub record Draft : Type 0 where
 abbrev pub key_for : Shape → ℕ → KeyName → KeyName
 key_for s root second_key = if s.at_second then second_key else master_key_of root
 
--- the item that sets a bearer of the table to a shape, under the key of that shape
+-- the item that sets a bearer of the table to a shape, under the key of that shape (TS 37.340, 10.3; TS 33.501, 6.10.2.1)
 abbrev pub set_to : ℕ → KeyName → (Row → Shape) → Row → Item
 set_to root second_key shape r =
     item.Set r.id r.n r.first (shape r) r.threshold r.policy (key_for (shape r) root second_key) (Some r.anchor)
 
--- the plan of the next generation
+-- the plan of the next generation (part of the rule draft)
 abbrev pub next_plan : Table → Option Node → List Item → Plan
 next_plan t sec items = record { g = t.last + 1; sec = sec; items = items }
 
--- a change that keeps the root and the K_SN
+-- a change that keeps the root and the K_SN (part of the rule draft)
 abbrev pub same_keys : Table → Option Node → List Item → Change
 same_keys t sec items = record { plan = next_plan t sec items; root = t.book.current; second_key = t.second_key }
 
--- the first record, to the node that there may be
+-- the first record, to the node that there may be (part of the rule draft)
 abbrev pub asking : First → Option Node → Option (First × Node)
 asking f x = option_map (λ y. (f, y)) x
 
--- the record goes to the secondary node unless only the master has the bearer
+-- the record goes to the secondary node unless only the master has the bearer (TS 37.340, 10.3; TS 38.423, 8.3.3)
 abbrev pub asking_for : Shape → Option Node → Option (First × Node)
 asking_for s sec = if is_mm s then None else asking modification sec
 
--- the shape that a bearer has; that of none is the master's
+-- the shape that a bearer has; that of none is the master's (part of the rule draft)
 abbrev pub shape_of : Option Row → Shape
 shape_of None = mm
 shape_of (Some r) = r.shape
 
--- the bearers that the secondary node has a part in
+-- the bearers that the secondary node has a part in (part of the rule draft)
 abbrev pub shared_rows : Table → List Row
 shared_rows t = filter (λ r. not (is_mm r.shape)) t.rows
 
--- those with their anchor at the secondary node
+-- those with their anchor at the secondary node (part of the rule draft)
 abbrev pub second_rows : Table → List Row
 second_rows t = filter (λ r. r.shape.at_second) t.rows
 
--- the name of the next K_SN of the current root
+-- the name of the next K_SN of the current root (TS 33.501, 6.10.3.1)
 abbrev pub next_second_key : Table → KeyName
 next_second_key t = second_key_of t.book.current (counters_drawn t.book t.book.current)
 
 -- bearers of the table under a new K_SN of the current root, at this secondary node, with their shapes as they are
+-- (TS 33.501, 6.10.3.1; TS 37.340, 10.2, 10.3 and 10.5)
 abbrev pub with_next_key : Table → Option Node → List Row → First → Draft
 with_next_key t sec rows f = record {
   change = record {
@@ -79,16 +80,17 @@ with_next_key t sec rows f = record {
   first = asking f sec;
 }
 
--- a command that draws no key
+-- a command that draws no key (part of the rule draft)
 abbrev pub without_key : Table → Change → Option (First × Node) → Draft
 without_key t c first = record { change = c; book = t.book; first = first }
 
--- the book with a new root, and with its first SN Counter drawn where there is a secondary node
+-- the book with a new root, and with its first SN Counter drawn where there is a secondary node (TS 33.501, 6.10.3.1)
 abbrev pub book_with_root : Table → List ℕ → Option Node → Book
 book_with_root t root None = noting t.book root
 book_with_root t root (Some x) = with_counter (noting t.book root) (length t.book.roots)
 
 -- every bearer under the keys of a new root: the master's and, at a secondary node, a new K_SN
+-- (TS 33.501, 6.10; TS 37.340, 10.3)
 abbrev pub with_root : Table → List ℕ → Draft
 with_root t root =
     let number = length t.book.roots in record {
@@ -101,12 +103,12 @@ with_root t root =
       first = asking modification t.sec;
     }
 
--- the other secondary node, where there is one now
+-- the other secondary node, where there is one now (part of the rule draft)
 abbrev pub next_second : Option Node → Option Node
 next_second None = None
 next_second (Some x) = Some (other_second x)
 
--- the draft of a command; an event that draws no plan has none
+-- the draft of a command; an event that draws no plan has none (TS 37.340, 10.2 to 10.5)
 abbrev pub draft : Table → Event → Option Draft
 draft t (event.Bearer id n first shape threshold policy) =
     Some (without_key t (same_keys t t.sec (item.Set id n first shape threshold policy (key_for shape t.book.current t.second_key) None ∷ [])) (asking_for shape t.sec))

@@ -21,20 +21,21 @@ use Rattle.node_rules.specs.MasterGo.{begins_if}
 use Rattle.node_rules.specs.declared.commands.Command.TheVariants.{Recovering as recovering}
 use Rattle.node_rules.specs.MasterState.{MasterActs, MasterProc, has_bearer}
 
--- the table has no secondary node
+-- the table has no secondary node (part of the rule command_refusals)
 abbrev pub is_alone : MasterProc → Bool
 is_alone m = is_none m.table.sec
 
--- a plan that the command would draw sets a key that another establishment used for that identity
+-- a plan that the command would draw sets a key that another establishment used for that identity (TS 38.331, 5.3.5.6.5)
 abbrev pub spends_identity : MasterProc → Event → Bool
 spends_identity m e = is_release_spent m.table (draft m.table e)
 
--- both have the same name of their shape
+-- both have the same name of their shape (part of the rule command_refusals)
 abbrev pub is_same_shape : Shape → Option Row → Bool
 is_same_shape s None = false
 is_same_shape s (Some r) = bytes_eq (shape_word s) (shape_word r.shape)
 
 -- the conditions under which a command is refused, in their order; what is no command of the master's is never refused
+-- (this product's own)
 abbrev pub command_refusals : ℕ → MasterProc → Event → List (Bool × Refusal)
 command_refusals policies m (event.Bearer id n first shape threshold policy) =
     (is_some m.command, refusal.Busy) ∷ (has_bearer m id, refusal.BearerThere) ∷ (not (is_mm shape) && is_alone m, refusal.NoSecondary)
@@ -64,18 +65,19 @@ command_refusals policies m (event.Lose l i) = []
 command_refusals policies m (event.Again l i) = []
 
 -- the node of a bearer's anchor has to recover it; the terminal has to in any case
+-- (TS 38.323, 5.5; the command is this product's own)
 abbrev pub recovers_at : MasterProc → ℕ → Node → MasterActs
 recovers_at m id M = (record m { command = Some (recovering id true None) }, send T (rec.Recov id) ∷ recover_one id ∷ [])
 recovers_at m id A = (record m { command = Some (recovering id true (Some A)) }, send T (rec.Recov id) ∷ send A (rec.Recov id) ∷ [])
 recovers_at m id B = (record m { command = Some (recovering id true (Some B)) }, send T (rec.Recov id) ∷ send B (rec.Recov id) ∷ [])
 recovers_at m id T = (m, [])
 
--- a bearer is recovered
+-- a bearer is recovered (part of the rule command_by)
 abbrev pub recovers_row : MasterProc → ℕ → Option Row → MasterActs
 recovers_row m id None = (m, [])
 recovers_row m id (Some r) = recovers_at m id r.anchor
 
--- the bearer that an event recovers; any other command has a plan
+-- the bearer that an event recovers; any other command has a plan (part of the rule commands)
 abbrev pub recovered_by : Event → Option ℕ
 recovered_by (event.Bearer id n first shape threshold policy) = None
 recovered_by (event.Reshape id shape) = None
@@ -95,20 +97,21 @@ recovered_by (event.Step l i) = None
 recovered_by (event.Lose l i) = None
 recovered_by (event.Again l i) = None
 
--- a command is carried on: a recovery, or one that has a plan
+-- a command is carried on: a recovery, or one that has a plan (TS 37.340, 10.2 to 10.5; a recovery: TS 38.323, 5.5)
 abbrev pub command_by : MasterProc → Event → Option ℕ → MasterActs
 command_by m e None = begins_if m false (draft m.table e)
 command_by m e (Some id) = recovers_row m id (row m.table id)
 
--- a command that is not refused begins
+-- a command that is not refused begins (part of the rule master_command)
 abbrev pub commands : MasterProc → Event → MasterActs
 commands m e = command_by m e (recovered_by e)
 
--- unless it is refused
+-- unless it is refused (part of the rule master_command)
 abbrev pub commands_unless : MasterProc → Event → Option Refusal → Result MasterActs ProcFault
 commands_unless m e None = Ok (commands m e)
 commands_unless m e (Some why) = Err (refused why)
 
 -- the master takes a command, where so many routing policies are stored
+-- (TS 37.340, 10.2 to 10.5; the refusals are this product's own)
 abbrev pub master_command : ℕ → MasterProc → Event → Result MasterActs ProcFault
 master_command policies m e = commands_unless m e (first_refusal (command_refusals policies m e))

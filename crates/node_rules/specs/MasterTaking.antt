@@ -15,7 +15,7 @@ use Rattle.node_rules.specs.declared.commands.Command.{Command}
 use Rattle.node_rules.specs.declared.commands.Command.TheVariants.{Asked as asked, Gone as gone, Recovering as recovering}
 use Rattle.node_rules.specs.MasterState.{MasterActs, MasterProc}
 
--- a record from a secondary node
+-- a record from a secondary node (TS 38.423, 8.2.2 and 8.3)
 abbrev pub from_second : Node → MasterProc → Rec → Result MasterActs ProcFault
 from_second x m (rec.Addack g) = agreed kind.Addack addition x g m m.command
 from_second x m (rec.Modack g) = agreed kind.Modack modification x g m m.command
@@ -45,7 +45,7 @@ from_second x m (rec.Chgcnf plan) = no_row kind.Chgcnf
 from_second x m (rec.Chgref word) = no_row kind.Chgref
 from_second x m (rec.Relcnf plan) = no_row kind.Relcnf
 
--- a record from the terminal
+-- a record from the terminal (TS 38.331, 5.3.5 and 5.7.3)
 abbrev pub from_terminal : MasterProc → Rec → Result MasterActs ProcFault
 from_terminal m (rec.Rcomp g) = completed g m m.command
 from_terminal m (rec.Scgf failed) = Ok (failed_legs m failed)
@@ -75,20 +75,20 @@ from_terminal m (rec.Chgref word) = no_row kind.Chgref
 from_terminal m rec.Relrqd = no_row kind.Relrqd
 from_terminal m (rec.Relcnf plan) = no_row kind.Relcnf
 
--- the master takes a record
+-- the master takes a record (TS 38.423, 8.3; TS 38.331, 5.3.5 and 5.7.3)
 abbrev pub master_take : Node → MasterProc → Rec → Result MasterActs ProcFault
 master_take T m r = from_terminal m r
 master_take A m r = from_second A m r
 master_take B m r = from_second B m r
 master_take M m r = no_row (kind_of r)
 
--- the master's own anchor adopted a bearer that the open plan moves to it
+-- the master's own anchor adopted a bearer that the open plan moves to it (part of the rule master_adopted)
 abbrev pub adopted_here : ℕ → MasterProc → Option Command → MasterActs
 adopted_here id m None = (m, [])
 adopted_here id m (Some (asked c first who wanted)) = (m, [])
 adopted_here id m (Some (gone p w)) = waits_for m (gone p (record w { moving = filter (λ y. not (is_moving id M y)) w.moving }))
 adopted_here id m (Some (recovering i terminal second)) = (m, [])
 
--- the procedures hear of it
+-- the procedures hear of it (this product's own)
 abbrev pub master_adopted : MasterProc → ℕ → MasterActs
 master_adopted m id = adopted_here id m m.command

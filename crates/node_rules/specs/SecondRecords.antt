@@ -20,13 +20,13 @@ use Rattle.node_rules.specs.declared.commands.Membership.{Membership}
 use Rattle.node_rules.specs.declared.commands.Membership.TheVariants.{Joined as joined, Left as left, Outside as outside}
 use Rattle.node_rules.specs.SecondState.{SecondActs, SecondProc}
 
--- a record that has no row in the state
+-- a record that has no row in the state (this product's own)
 abbrev pub no_second_row : RecKind → Result SecondActs ProcFault
 no_second_row k = Err (unexpected k)
 
 -- ---- requests (TS 38.423, 8.3.1, 8.3.3 and 8.3.6)
 
--- the node is added, unless it rejects
+-- the node is added, unless it rejects (part of the rule addition_asked)
 abbrev pub added : SecondProc → Plan → Bool → SecondActs
 added s p true = (s, send M (rec.Addrej p.g) ∷ [])
 added s p false = (record s { membership = joined }, say (note.Join s.me p.g) ∷ send M (rec.Addack p.g) ∷ go p ∷ [])
@@ -37,14 +37,14 @@ addition_asked s p outside = Ok (added s p s.denies)
 addition_asked s p joined = no_second_row kind.Addreq
 addition_asked s p left = no_second_row kind.Addreq
 
--- the items drop one bearer: such a request is not rejected
+-- the items drop one bearer: such a request is not rejected (part of the rule modification_asked)
 abbrev pub is_one_drop : List Item → Bool
 is_one_drop [] = false
 is_one_drop (item.Set id n first shape threshold policy key old ∷ items) = false
 is_one_drop (item.Unset id ∷ []) = true
 is_one_drop (item.Unset id ∷ (i ∷ items)) = false
 
--- the plan is carried out, unless it is rejected
+-- the plan is carried out, unless it is rejected (part of the rule modification_asked)
 abbrev pub modified : SecondProc → Plan → Bool → SecondActs
 modified s p true = (s, send M (rec.Modrej p.g) ∷ [])
 modified s p false = (s, send M (rec.Modack p.g) ∷ go p ∷ [])
@@ -55,11 +55,11 @@ modification_asked s p outside = no_second_row kind.Modreq
 modification_asked s p joined = Ok (modified s p (s.denies && not (is_one_drop p.items)))
 modification_asked s p left = no_second_row kind.Modreq
 
--- the node leaves, and carries the plan out
+-- the node leaves, and carries the plan out (part of the rule release_asked)
 abbrev pub leaves : SecondProc → Plan → List Act → SecondActs
 leaves s p answer = (record s { membership = left }, answer ++ say (note.Leave s.me p.g) ∷ go p ∷ [])
 
--- the node is released, unless it rejects; one that leaves by a change does not
+-- the node is released, unless it rejects; one that leaves by a change does not (part of the rule release_asked)
 abbrev pub let_off : SecondProc → Plan → Bool → SecondActs
 let_off s p true = (s, send M (rec.Relrej p.g) ∷ [])
 let_off s p false = leaves s p (send M (rec.Relack p.g) ∷ [])
@@ -78,7 +78,7 @@ forgotten s left = Ok (record s { membership = outside }, [])
 
 -- ---- what the node asked for (TS 38.423, 8.3.4, 8.3.5 and 8.3.7)
 
--- it asked for this
+-- it asked for this (part of the rule second_take)
 abbrev pub is_wanted : Want → Option Want → Bool
 is_wanted w None = false
 is_wanted want.Rekey (Some want.Rekey) = true
@@ -91,23 +91,23 @@ is_wanted want.Release (Some want.Rekey) = false
 is_wanted want.Release (Some want.Change) = false
 is_wanted want.Release (Some want.Release) = true
 
--- what it asked for is answered
+-- what it asked for is answered (part of the rule second_take)
 abbrev pub answered : SecondProc → SecondProc
 answered s = record s { want = None }
 
--- it is refused, whether or not the node still has a context
+-- it is refused, whether or not the node still has a context (TS 38.423, 8.3.4 and 8.3.5)
 abbrev pub refused_there : RecKind → SecondProc → Word → Bool → Result SecondActs ProcFault
 refused_there k s w true = Ok (answered s, say (note.Refused s.me w) ∷ [])
 refused_there k s w false = no_second_row k
 
--- it is confirmed by the completion of the plan
+-- it is confirmed by the completion of the plan (TS 38.423, 8.3.4)
 abbrev pub key_confirmed : SecondProc → ℕ → Bool → Membership → Result SecondActs ProcFault
 key_confirmed s g true outside = no_second_row kind.Modcnf
 key_confirmed s g true joined = Ok (answered s, unlock_all g ∷ say (note.Confirmed s.me) ∷ [])
 key_confirmed s g true left = no_second_row kind.Modcnf
 key_confirmed s g false m = no_second_row kind.Modcnf
 
--- it is confirmed, and the node leaves
+-- it is confirmed, and the node leaves (TS 38.423, 8.3.5 and 8.3.7)
 abbrev pub leave_confirmed : RecKind → SecondProc → Plan → Bool → Membership → Result SecondActs ProcFault
 leave_confirmed k s p true outside = no_second_row k
 leave_confirmed k s p true joined = Ok (leaves (answered s) p (say (note.Confirmed s.me) ∷ []))
@@ -115,11 +115,12 @@ leave_confirmed k s p true left = no_second_row k
 leave_confirmed k s p false m = no_second_row k
 
 -- a release of generation 0: there is nothing to release, whether or not the node still has a context
+-- (TS 38.423, 8.3.7; this answer is this product's own)
 abbrev pub release_needless : SecondProc → Bool → Result SecondActs ProcFault
 release_needless s true = Ok (answered s, say (note.Confirmed s.me) ∷ [])
 release_needless s false = no_second_row kind.Relcnf
 
--- a release is confirmed
+-- a release is confirmed (TS 38.423, 8.3.7)
 abbrev pub release_confirmed : SecondProc → Plan → Result SecondActs ProcFault
 release_confirmed s p =
     if p.g == 0 then release_needless s (is_wanted want.Release s.want)
@@ -151,7 +152,7 @@ failure_told s id g outside = no_second_row kind.Scgn
 failure_told s id g joined = Ok (s, fail_one id g ∷ [])
 failure_told s id g left = Ok (s, fail_one id g ∷ [])
 
--- a secondary node takes a record from the master
+-- a secondary node takes a record from the master (TS 38.423, 8.2.2, 8.2.7 and 8.3)
 abbrev pub second_take : SecondProc → Rec → Result SecondActs ProcFault
 second_take s (rec.Addreq plan key) = addition_asked s plan s.membership
 second_take s (rec.Modreq plan key) = modification_asked s plan s.membership

@@ -17,33 +17,35 @@ use Rattle.node_rules.specs.declared.commands.Membership.{Membership}
 use Rattle.node_rules.specs.declared.commands.Membership.TheVariants.{Outside as outside, Joined as joined, Left as left}
 
 -- the node; its membership; whether it rejects requests; what it asked the master for, until that is answered
+-- (TS 38.423, 8.3; the form is this product's own)
 pub record SecondProc : Type 0 where
   pub me : Node
   pub membership : Membership
   pub denies : Bool
   pub want : Option Want
 
--- the state with what the node has to do
+-- the state with what the node has to do (this product's own)
 abbrev pub SecondActs : Type 0
 SecondActs = SecondProc × List Act
 
--- the state before the first record
+-- the state before the first record (this product's own)
 abbrev pub new_second_proc : Node → SecondProc
 new_second_proc me = record { me = me; membership = outside; denies = false; want = None }
 
--- the node serves the terminal
+-- the node serves the terminal (this product's own)
 abbrev pub is_joined : Membership → Bool
 is_joined outside = false
 is_joined joined = true
 is_joined left = false
 
--- the request for a new K_SN, for a change away, or for the release
+-- the request for a new K_SN, for a change away, or for the release (TS 38.423, 8.3.4, 8.3.5 and 8.3.7)
 abbrev pub request : Want → Rec
 request want.Rekey = rec.Modrqd
 request want.Change = rec.Chgrqd
 request want.Release = rec.Relrqd
 
 -- the conditions under which a command is refused, in their order; what is no command of a secondary node is never refused
+-- (this product's own)
 abbrev pub second_refusals : SecondProc → Event → List (Bool × Refusal)
 second_refusals s (event.Ask node what) = (not (is_joined s.membership), refusal.NoSecondary) ∷ (is_some s.want, refusal.Busy) ∷ []
 second_refusals s (event.Bearer id n first shape threshold policy) = []
@@ -63,7 +65,7 @@ second_refusals s (event.Step l i) = []
 second_refusals s (event.Lose l i) = []
 second_refusals s (event.Again l i) = []
 
--- a command is carried on
+-- a command is carried on (TS 38.423, 8.3.4, 8.3.5 and 8.3.7; that a node can be told to reject is this product's own)
 abbrev pub second_commands : SecondProc → Event → SecondActs
 second_commands s (event.Ask node what) = (record s { want = Some what }, send M (request what) ∷ [])
 second_commands s (event.Deny node on) = (record s { denies = on }, [])
@@ -83,11 +85,11 @@ second_commands s (event.Step l i) = (s, [])
 second_commands s (event.Lose l i) = (s, [])
 second_commands s (event.Again l i) = (s, [])
 
--- unless it is refused
+-- unless it is refused (part of the rule second_command)
 abbrev pub second_commands_unless : SecondProc → Event → Option Refusal → Result SecondActs ProcFault
 second_commands_unless s e None = Ok (second_commands s e)
 second_commands_unless s e (Some why) = Err (refused why)
 
--- a secondary node takes a command
+-- a secondary node takes a command (TS 38.423, 8.3.4, 8.3.5 and 8.3.7; the refusals are this product's own)
 abbrev pub second_command : SecondProc → Event → Result SecondActs ProcFault
 second_command s e = second_commands_unless s e (first_refusal (second_refusals s e))

@@ -15,7 +15,7 @@ use Rattle.split_leg.specs.Legs.{LegsState, LegState, leg_at, with_leg}
 use Rattle.split_leg.specs.Routes.{has_leg}
 use Rattle.dc_base.specs.Nodes.{is_same_node}
 
--- a bearer in one generation at a node
+-- a bearer in one generation at a node (TS 38.331, 5.3.5.6.5; the form is this product's own)
 pub record Setup : Type 0 where
   pub node : Node  -- where it is set up
   pub sec : Option Node  -- the secondary of the plan
@@ -27,15 +27,15 @@ pub record Setup : Type 0 where
   pub key : List ℕ  -- the 32 octets of the root or the K_SN from which the ciphering key is derived
   pub legs : LegsState
 
--- a leg on which nothing was put
+-- a leg on which nothing was put (part of the rule new_legs)
 abbrev pub new_leg : LegState
 new_leg = record { pdus = []; before = 0; failed = false }
 
--- legs on which nothing was put
+-- legs on which nothing was put (part of the rule setup_of)
 abbrev pub new_legs : Shape → ℕ → ℕ → LegsState
 new_legs shape threshold policy = record { shape = shape; threshold = threshold; policy = policy; mcg = new_leg; scg = new_leg }
 
--- what a plan sets up at a node, under a key; None for an item that drops
+-- what a plan sets up at a node, under a key; None for an item that drops (TS 38.331, 5.3.5.6.5)
 abbrev pub setup_of : Node → Plan → Alg → List ℕ → Item → Option Setup
 setup_of node plan alg key (Set id n first shape threshold policy name old) = Some (record {
   node = node;
@@ -50,58 +50,58 @@ setup_of node plan alg key (Set id n first shape threshold policy name old) = So
 })
 setup_of node plan alg key (Unset id) = None
 
--- both are of this bearer and generation
+-- both are of this bearer and generation (this product's own)
 abbrev pub is_of : Setup → ℕ → ℕ → Bool
 is_of s id g = (s.id == id) && (s.g == g)
 
 -- ---- where its legs are
 
--- the cell group of a node
+-- the cell group of a node (TS 37.340, 4.2.2)
 abbrev pub cell_of : Node → Cell
 cell_of M = Mcg
 cell_of _ = Scg
 
--- the other cell group
+-- the other cell group (part of the rule host_of)
 abbrev pub other_cell : Cell → Cell
 other_cell Mcg = Scg
 other_cell Scg = Mcg
 
--- both are one cell group
+-- both are one cell group (this product's own)
 abbrev pub is_same_cell : Cell → Cell → Bool
 is_same_cell Mcg Mcg = true
 is_same_cell Mcg Scg = false
 is_same_cell Scg Mcg = false
 is_same_cell Scg Scg = true
 
--- the node of a cell group: the master, or the secondary of the plan
+-- the node of a cell group: the master, or the secondary of the plan (TS 37.340, 4.2.2)
 abbrev pub node_of : Option Node → Cell → Option Node
 node_of sec Mcg = Some M
 node_of sec Scg = sec
 
--- the node is the one that may be there
+-- the node is the one that may be there (part of the rule has_leg_at)
 abbrev pub is_there : Node → Option Node → Bool
 is_there x None = false
 is_there x (Some y) = is_same_node x y
 
--- the bearer has a leg over the cells of this node
+-- the bearer has a leg over the cells of this node (TS 37.340, 4.2.2)
 abbrev pub has_leg_at : Setup → Node → Bool
 has_leg_at s x = has_leg s.legs.shape.legs (cell_of x) && is_there x (node_of s.sec (cell_of x))
 
--- the cell group in which the anchor is
+-- the cell group in which the anchor is (TS 37.340, 4.2.2)
 abbrev pub anchor_cell : Shape → Cell
 anchor_cell shape = if shape.at_second then Scg else Mcg
 
--- the host: the node of the leg that goes through a tunnel, if there is such a leg
+-- the host: the node of the leg that goes through a tunnel, if there is such a leg (TS 37.340, 4.2.2)
 abbrev pub host_of : Setup → Option Node
 host_of s =
     let cell = other_cell (anchor_cell s.legs.shape) in
     if has_leg s.legs.shape.legs cell then node_of s.sec cell else None
 
--- the bearer has a leg over this cell group
+-- the bearer has a leg over this cell group (TS 37.340, 4.2.2)
 abbrev pub has_cell : Setup → Cell → Bool
 has_cell s cell = has_leg s.legs.shape.legs cell
 
--- the node marked the leg over this cell group as failed
+-- the node marked the leg over this cell group as failed (TS 37.340, 7.7)
 abbrev pub has_failed : Setup → Cell → Bool
 has_failed s cell = (leg_at s.legs cell).failed
 
