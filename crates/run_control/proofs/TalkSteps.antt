@@ -89,16 +89,16 @@ input_of (given_to x i) d = i
 input_of (refused_for why) d = d
 input_of (on_links effects) d = d
 
-class_of : (k : Class) (f : Flight) (r : Rec) → record_on k f ≡ Some r → k ≡ Ctl
+pub class_of : (k : Class) (f : Flight) (r : Rec) → record_on k f ≡ Some r → k ≡ Ctl
 class_of Ctl f r is = refl
 class_of Feed f r is = absurd cc
 class_of Air f r is = absurd cc
 class_of Tun f r is = absurd cc
 
-itself : (l : LinkId) → is_same_link l l ≡ true
+pub itself : (l : LinkId) → is_same_link l l ≡ true
 itself l = eq-eqb (link_number l) (link_number l) refl
 
-same_as : (x y : Node) (k : LinkId) → k.from ≡ x → y ≡ k.to → k.class ≡ Ctl → is_same_link (link x y Ctl) k ≡ true
+pub same_as : (x y : Node) (k : LinkId) → k.from ≡ x → y ≡ k.to → k.class ≡ Ctl → is_same_link (link x y Ctl) k ≡ true
 same_as x y k from to class =
     let is : k ≡ link x y Ctl =
     ap (λ n. record { from = n; to = k.to; class = k.class }) from
@@ -107,7 +107,7 @@ same_as x y k from to class =
     subst (λ j. is_same_link (link x y Ctl) j ≡ true) (sym is) (itself (link x y Ctl))
 
 -- no record of this link is among the input
-refutes : (x y : Node) (k : LinkId) (f : Flight) (r : Rec) → NoneOf (link x y Ctl) (Come k f) → k.from ≡ x → y ≡ k.to → record_in (Come k f) ≡ Some r → ⊥
+pub refutes : (x y : Node) (k : LinkId) (f : Flight) (r : Rec) → NoneOf (link x y Ctl) (Come k f) → k.from ≡ x → y ≡ k.to → record_in (Come k f) ≡ Some r → ⊥
 refutes x y k f r (inl other) from to is = never (is_same_link (link x y Ctl) k) (same_as x y k from to (class_of k.class f r is)) other
 refutes x y k f r (inr none) from to is = no_some r (sym none ∙ is)
   where
