@@ -1,0 +1,4 @@
+-- what was put on legs
+pub mod Puts
+-- and by which entity
+pub mod Entities
