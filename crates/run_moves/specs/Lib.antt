@@ -1,0 +1,2 @@
+-- an entity that can be moved whole
+pub mod Movable
