@@ -1,5 +1,7 @@
 -- What holds of each entry of a run because of what stands on the links.
 use Rattle.std.proofs.Common.{ℕ, ◌≡◌, Bool, true, List, [], ◌∷◌, length, refl, sym}
+use Rattle.std.specs.List.{AllByRecursion}
+use Rattle.std.specs.Prelude.{if◌then◌else◌, ⊤}
 use Rattle.dc_base.specs.Links.{link_number}
 use Rattle.dc_base.specs.declared.events.Event.{Event}
 use Rattle.dc_base.specs.declared.events.Event.TheVariants as event
@@ -7,8 +9,9 @@ use Rattle.dc_base.specs.declared.events.Header.{Header}
 use Rattle.dc_base.specs.declared.events.Line.{Line}
 use Rattle.transcript.specs.Transcript.{Entry}
 use Rattle.claims.specs.Causes.{has_cause}
-use Rattle.claims.specs.Claim.{Claim, Each, EachLine, of_entries}
+use Rattle.claims.specs.Claim.{Claim, Each, EachLine}
 use Rattle.claims.specs.Judged.{judged}
+use Rattle.claims.specs.Names.{cause, claim}
 use Rattle.claims.specs.Noted.{after, noted}
 use Rattle.claims.specs.Past.{Past, new_past}
 use Rattle.node_rules.specs.Choices.{Choices}
@@ -16,21 +19,38 @@ use Rattle.node_rules.specs.Run.{entries_from, world_step}
 use Rattle.node_rules.specs.World.{World, new_world}
 use Rattle.master_runs.proofs.Contents.{long_next}
 use Rattle.master_runs.proofs.Moving.{none_there}
+use Rattle.run_words.specs.Parts.{at_events, is_loss_or_copy}
 use Rattle.run_words.specs.Standing.{StandsAs}
 use Rattle.run_words.proofs.Standing.{stands_next}
 use Rattle.run_words.proofs.Causes.{copy_cause, lose_cause}
 
--- a claim holds of a run where something that is so at the start gives it at each event, and lasts
+-- a claim holds of a run where something that is so at the start gives it at each event, and lasts, if the events are as they
+-- should be
+module _ (c : Choices) (k : Claim) (Fits : Event → Type 0) (Holds : Past → World → Type 0)
+    (lines : (v : World) (p : Past) (e : Event) → Fits e → Holds p v → let x = (world_step c v e).1 in EachLine k.of_line (judged x.event x.answer p) x.lines)
+    (entry : (v : World) (p : Past) (e : Event) → Fits e → Holds p v → let x = (world_step c v e).1 in k.of_entry p x (after p x) ≡ true)
+    (lasts : (v : World) (p : Past) (e : Event) → Fits e → Holds p v → Holds (after p (world_step c v e).1) (world_step c v e).0) where
+  pub each_if : (es : List Event) → AllByRecursion Fits es → (v : World) (p : Past) → Holds p v → Each k p (entries_from c v es)
+  each_if [] fits v p holds = tt
+  each_if (e ∷ es) fits v p holds =
+      (lines v p e fits.0 holds, entry v p e fits.0 holds, each_if es fits.1 (world_step c v e).0 (after p (world_step c v e).1) (lasts v p e fits.0 holds))
+
+-- where nothing is asked of the events
+any_events : (es : List Event) → AllByRecursion (λ e. ⊤) es
+any_events [] = tt
+any_events (e ∷ es) = (tt, any_events es)
+
+-- the same of any events
 module _ (c : Choices) (k : Claim) (Holds : Past → World → Type 0)
     (lines : (v : World) (p : Past) (e : Event) → Holds p v → let x = (world_step c v e).1 in EachLine k.of_line (judged x.event x.answer p) x.lines)
     (entry : (v : World) (p : Past) (e : Event) → Holds p v → let x = (world_step c v e).1 in k.of_entry p x (after p x) ≡ true)
     (lasts : (v : World) (p : Past) (e : Event) → Holds p v → Holds (after p (world_step c v e).1) (world_step c v e).0) where
   pub each_by : (es : List Event) (v : World) (p : Past) → Holds p v → Each k p (entries_from c v es)
-  each_by [] v p holds = tt
-  each_by (e ∷ es) v p holds = (lines v p e holds, entry v p e holds, each_by es (world_step c v e).0 (after p (world_step c v e).1) (lasts v p e holds))
+  each_by es v p holds =
+      each_if c k (λ e. ⊤) Holds (λ v p e fits holds. lines v p e holds) (λ v p e fits holds. entry v p e holds) (λ v p e fits holds. lasts v p e holds) es (any_events es) v p holds
 
 -- of lines nothing is said
-none_said : (p : Past) (xs : List Line) → EachLine (λ q x. true) p xs
+pub none_said : (p : Past) (xs : List Line) → EachLine (λ q x. true) p xs
 none_said p [] = tt
 none_said p (x ∷ xs) = (refl, none_said (noted p x) xs)
 
@@ -47,14 +67,9 @@ linked_new h policies = record { long = refl; same = λ l. sym (none_there 64 (l
 pub linked_next : (c : Choices) (v : World) (p : Past) (e : Event) → AreLinked p v → AreLinked (after p (world_step c v e).1) (world_step c v e).0
 linked_next c v p e linked = record { long = long_next c v e linked.long; same = stands_next c v p e linked.long linked.same }
 
--- the claim on answers, of losses and copies alone
-abbrev pub has_cause_if_loss : Past → Entry → Event → Bool
-has_cause_if_loss p x (event.Lose l i) = has_cause p x
-has_cause_if_loss p x (event.Again l i) = has_cause p x
-has_cause_if_loss p x _ = true
-
-abbrev pub loss_has_cause : Past → Entry → Bool
-loss_has_cause p x = has_cause_if_loss p x x.event
+-- the answer of an event is the one that it is due, if it is a loss or a copy
+abbrev loss_has_cause : Past → Entry → Bool
+loss_has_cause p x = if is_loss_or_copy x.event then has_cause p x else true
 
 cause_of : (c : Choices) (v : World) (p : Past) (e : Event) → AreLinked p v → loss_has_cause p (world_step c v e).1 ≡ true
 cause_of c v p (event.Lose l i) linked = lose_cause c v p linked.same l i
@@ -77,7 +92,7 @@ cause_of c v p (event.Submit id d sdu) linked = refl
 
 -- each loss and each copy of a run is answered as it is due
 pub loss_causes_hold : (c : Choices) (h : Header) (policies : ℕ) (es : List Event)
-    → Each (of_entries (λ p e q. loss_has_cause p e)) (new_past h policies) (entries_from c (new_world h) es)
+    → Each (at_events is_loss_or_copy (claim cause)) (new_past h policies) (entries_from c (new_world h) es)
 loss_causes_hold c h policies es =
-    each_by c (of_entries (λ p e q. loss_has_cause p e)) AreLinked (λ v p e linked. none_said (judged e (world_step c v e).1.answer p) (world_step c v e).1.lines) (cause_of c) (linked_next c)
+    each_by c (at_events is_loss_or_copy (claim cause)) AreLinked (λ v p e linked. none_said (judged e (world_step c v e).1.answer p) (world_step c v e).1.lines) (cause_of c) (linked_next c)
     es (new_world h) (new_past h policies) (linked_new h policies)

@@ -4,3 +4,5 @@ pub mod Standing
 pub mod Sorted
 -- who sends on which kind of link
 pub mod Senders
+-- what a claim says of some events or lines
+pub mod Parts
