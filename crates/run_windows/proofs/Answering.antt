@@ -14,16 +14,15 @@ use Rattle.dc_base.specs.declared.answers.Refusal.TheVariants as refusal
 use Rattle.dc_base.specs.declared.events.Event.{Event}
 use Rattle.dc_base.specs.declared.events.Event.TheVariants as event
 use Rattle.dc_base.specs.declared.events.Header.{Header}
-use Rattle.dc_base.specs.declared.events.Line.{Line}
 use Rattle.dc_base.specs.declared.events.Note.{Note}
 use Rattle.dc_base.specs.declared.flights.Flight.{Flight}
 use Rattle.dc_base.specs.declared.nodes.Dir.TheVariants.{Dl, Ul}
 use Rattle.dc_base.specs.declared.nodes.LinkId.{LinkId}
 use Rattle.dc_base.specs.declared.nodes.Node.{Node}
 use Rattle.dc_base.specs.declared.nodes.Node.TheVariants.{A, B, M, T}
-use Rattle.claims.specs.Claim.{Each, EachLine, of_entries}
+use Rattle.claims.specs.Claim.{Each, of_entries}
 use Rattle.claims.specs.Judged.{judged}
-use Rattle.claims.specs.Noted.{after, noted}
+use Rattle.claims.specs.Noted.{after}
 use Rattle.claims.specs.Past.{Bearer, Past, new_past}
 use Rattle.claims.specs.Reading as reading
 use Rattle.claims.specs.Causes.{first_of_them}
@@ -55,7 +54,7 @@ use Rattle.node_rules.specs.World.{World, flights_on, new_world}
 use Rattle.node_rules.specs.declared.inputs.Input.{Input}
 use Rattle.node_rules.specs.declared.inputs.Input.TheVariants.{Cmd, Come}
 use Rattle.node_rules.specs.declared.inputs.Outcome.{Outcome}
-use Rattle.run_words.proofs.Runs.{each_by}
+use Rattle.run_words.proofs.Runs.{each_by, none_said}
 use Rattle.run_windows.specs.Answers.{IsSeen, submission_due, submission_is_answered, unless_dropped}
 use Rattle.run_windows.specs.Controls.{controls}
 use Rattle.run_windows.specs.Fits.{absent}
@@ -393,11 +392,6 @@ answer_is c v p event.ScgFail is = refl
 answer_is c v p (event.Step l i) is = refl
 answer_is c v p (event.Lose l i) is = refl
 answer_is c v p (event.Again l i) is = refl
-
--- of lines nothing is said
-none_said : (p : Past) (xs : List Line) → EachLine (λ q x. true) p xs
-none_said p [] = tt
-none_said p (x ∷ xs) = (refl, none_said (noted p x) xs)
 
 -- each downlink submission of any run is answered as it is due: a bearer that is done and not dropped takes it, unless its
 -- window is full or its COUNTs are used up
