@@ -1,6 +1,6 @@
 -- The master answers its commands on secondary nodes and keys as it is due.
 use Rattle.std.proofs.Common.{ℕ, ◌≡◌, ◌==◌, ◌&&◌, ◌||◌, Bool, true, List, [], ◌∷◌, Option, Some, None, refl, sym, ap, ap₂, ◌∙◌, inl, inr, arith}
-use Rattle.std.specs.Prelude.{bytes_eq, is_none, is_some, length, nat_le, nat_lt, not, slice_index}
+use Rattle.std.specs.Prelude.{bytes_eq, if◌then◌else◌, is_none, is_some, length, nat_le, nat_lt, not, slice_index}
 use Rattle.std.specs.List.{AllByRecursion, list_any}
 use Rattle.std.proofs.lemmas.Bool.{cases_Bool, eq-eqb}
 use Rattle.std.proofs.lemmas.Bool.Decides.{nat_tests}
@@ -14,8 +14,9 @@ use Rattle.dc_base.specs.declared.events.Header.{Header}
 use Rattle.dc_base.specs.declared.nodes.Node.{Node}
 use Rattle.transcript.specs.Transcript.{Entry}
 use Rattle.claims.specs.Causes.{due, first_of_them, has_cause}
-use Rattle.claims.specs.Claim.{Each, of_entries}
+use Rattle.claims.specs.Claim.{Each}
 use Rattle.claims.specs.Judged.{judged}
+use Rattle.claims.specs.Names.{cause, claim}
 use Rattle.claims.specs.Past.{Past, new_past}
 use Rattle.claims.specs.Sameness.{answer_number, is_same_answer, is_same_octets}
 use Rattle.claims.specs.Table as claims
@@ -29,10 +30,14 @@ use Rattle.node_rules.specs.Run.{entries_from, world_step}
 use Rattle.node_rules.specs.World.{World, new_world}
 use Rattle.node_rules.specs.declared.commands.Command.{Command}
 use Rattle.node_rules.specs.declared.commands.Command.TheVariants.{Asked as asked, Gone as gone, Recovering as recovering}
-use Rattle.run_table.specs.SameTable.{Agree, NamesSecond, SameCommand}
+use Rattle.run_control.specs.Sound.{AddsSecond}
+use Rattle.run_table.specs.SameTable.{Agree, SameCommand}
+use Rattle.run_table.specs.Commands.{is_key_command}
 use Rattle.run_table.specs.View.{View, view}
 use Rattle.run_table.proofs.Spent.{same_spent}
-use Rattle.run_table.proofs.Runs.{Lasts, each_if, lasts_new, lasts_next, no_line}
+use Rattle.run_table.proofs.Runs.{Lasts, lasts_new, lasts_next}
+use Rattle.run_words.specs.Parts.{at_events}
+use Rattle.run_words.proofs.Runs.{each_if, none_said}
 
 -- ---- answers
 
@@ -81,24 +86,20 @@ noted_so : (root : List ℕ) (roots : List (List ℕ)) → list_any (is_same_oct
 noted_so root [] = refl
 noted_so root (r ∷ rs) = ap₂ (λ a b. a || b) (octets_so root r) (noted_so root rs)
 
--- ---- the claim on answers, of the commands that add, change and release the secondary node, and that give new keys
+-- ---- the claim on answers, of these commands
 
-abbrev pub key_command_has_cause : Past → Entry → Event → Bool
-key_command_has_cause p x (event.Add node) = has_cause p x
-key_command_has_cause p x event.Change = has_cause p x
-key_command_has_cause p x event.Release = has_cause p x
-key_command_has_cause p x event.RekeySecond = has_cause p x
-key_command_has_cause p x (event.RekeyMaster root) = has_cause p x
-key_command_has_cause p x _ = true
+-- the answer of an event is the one that it is due, if it is such a command
+abbrev key_command_has_cause : Past → Entry → Bool
+key_command_has_cause p x = if is_key_command x.event then has_cause p x else true
 
 module _ (c : Choices) (w : World) (p : Past) (agree : Agree (view p) w.master.proc) where
   abbrev m : MasterProc
   m = w.master.proc
 
-  busy : is_some p.table.command ≡ is_some m.command
+  pub busy : is_some p.table.command ≡ is_some m.command
   busy = busy_so (view p) m.command p.table.command agree.same.command
 
-  none_there : is_none p.table.sec ≡ is_none m.table.sec
+  pub none_there : is_none p.table.sec ≡ is_none m.table.sec
   none_there = ap is_none agree.same.rest.sec
 
   one_there : is_some p.table.sec ≡ not (is_none m.table.sec)
@@ -117,13 +118,13 @@ module _ (c : Choices) (w : World) (p : Past) (agree : Agree (view p) w.master.p
   two a a' b b' x y is is' = ap (λ k. first_of_them ((k, x) ∷ (b, y) ∷ [])) is ∙ ap (λ k. first_of_them ((a', x) ∷ (k, y) ∷ [])) is'
 
   -- the answer is by the refusals of the master, which are those of the claims
-  caused : (e : Event) → due p e ≡ first_of_them (command_refusals (length c.policies) m e)
+  pub caused : (e : Event) → due p e ≡ first_of_them (command_refusals (length c.policies) m e)
       → is_same_answer (commanded c w.master (commands_unless m e (first_refusal (command_refusals (length c.policies) m e)))).1.answer (due p e) ≡ true
   caused e is =
       let bs = command_refusals (length c.policies) m e in
       same_answers _ _ (commanded_answer c w.master e (first_refusal bs) ∙ sym (first_is bs) ∙ sym is)
 
-  pub has_key_cause : (e : Event) → key_command_has_cause p (world_step c w e).1 e ≡ true
+  pub has_key_cause : (e : Event) → key_command_has_cause p (world_step c w e).1 ≡ true
   has_key_cause (event.Add node) = caused (event.Add node) (three _ _ _ _ _ _ refusal.Busy refusal.SecondaryThere refusal.CounterSpent busy one_there counters)
   has_key_cause event.Change = caused event.Change (three _ _ _ _ _ _ refusal.Busy refusal.NoSecondary refusal.CounterSpent busy none_there counters)
   has_key_cause event.Release =
@@ -149,9 +150,9 @@ module _ (c : Choices) (w : World) (p : Past) (agree : Agree (view p) w.master.p
 
 -- each addition, change, release and new key of a run is answered as it is due: in each row the first refusal that holds, else
 -- ok
-pub key_causes_hold : (c : Choices) (h : Header) (policies : ℕ) (es : List Event) → AllByRecursion NamesSecond es
-    → Each (of_entries (λ p x q. key_command_has_cause p x x.event)) (new_past h policies) (entries_from c (new_world h) es)
+pub key_causes_hold : (c : Choices) (h : Header) (policies : ℕ) (es : List Event) → AllByRecursion AddsSecond es
+    → Each (at_events is_key_command (claim cause)) (new_past h policies) (entries_from c (new_world h) es)
 key_causes_hold c h policies es names =
-    each_if c (of_entries (λ p x q. key_command_has_cause p x x.event)) Lasts
-    (λ w p e name l. no_line (judged e (world_step c w e).1.answer p) (world_step c w e).1.lines) (λ w p e name l. has_key_cause c w p l.agree e) (λ w p e name l. lasts_next c w p e name l)
+    each_if c (at_events is_key_command (claim cause)) AddsSecond Lasts
+    (λ w p e name l. none_said (judged e (world_step c w e).1.answer p) (world_step c w e).1.lines) (λ w p e name l. has_key_cause c w p l.agree e) (λ w p e name l. lasts_next c w p e name l)
     es names (new_world h) (new_past h policies) (lasts_new h policies)

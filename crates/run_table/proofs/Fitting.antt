@@ -18,7 +18,8 @@ use Rattle.node_rules.specs.CommandTable.{Table, carried, claims_of, establishme
 use Rattle.node_rules.specs.Drafts.{Draft, book_with_root, draft, next_second, next_second_key, second_rows, set_to, shared_rows}
 use Rattle.node_rules.specs.Places.{anchor_at, mm}
 use Rattle.node_rules.specs.declared.commands.Row.{Row}
-use Rattle.run_table.specs.SameTable.{AreFit, IsOld, IsPlaced, IsSecond}
+use Rattle.run_control.specs.Sound.{IsSecond}
+use Rattle.run_table.specs.SameTable.{AreFit, IsOld, IsPlaced}
 use Rattle.run_table.proofs.Rows.{each_left, each_placed, each_set, each_weaker, left_ascend, placed_ascend, set_ascend, set_if, set_rows}
 
 -- ---- shapes

@@ -1,24 +1,24 @@
 -- what the steps of the past do to the table
-mod Views
+pub mod Views
 -- the lines that do
-mod LineWords
+pub mod LineWords
 -- all that does not
-mod Quiet
-mod Others
-mod Beside
+pub mod Quiet
+pub mod Others
+pub mod Beside
 -- the rows of both tables
-mod Rows
-mod Carried
-mod Drafting
-mod Fitting
+pub mod Rows
+pub mod Carried
+pub mod Drafting
+pub mod Fitting
 -- the procedures of the master
-mod Procs
-mod Beginnings
-mod Records
+pub mod Procs
+pub mod Beginnings
+pub mod Records
 -- a run
-mod Steps
-mod Tunnels
-mod Runs
-mod Spent
-mod Causes
-mod Orders
+pub mod Steps
+pub mod Tunnels
+pub mod Runs
+pub mod Spent
+pub mod Causes
+pub mod Orders

@@ -24,19 +24,24 @@ use Rattle.dc_base.specs.declared.records.Rec.TheVariants as rec
 use Rattle.key_chain.specs.KeyNames.{octets}
 use Rattle.claims.specs.Claim.{Each, EachLine, of_lines}
 use Rattle.claims.specs.Judged.{judged}
+use Rattle.claims.specs.Names as claims
+use Rattle.claims.specs.Names.{claim}
 use Rattle.claims.specs.Noted.{noted}
 use Rattle.claims.specs.Past.{Past, new_past}
+use Rattle.claims.specs.Planned.{is_keyed, is_planned}
 use Rattle.claims.specs.Sameness.{are_same_items, are_same_nodes, is_same_item, is_same_key, is_same_octets, is_same_plan, is_some_and, shape_number, side_number}
 use Rattle.claims.specs.Table.{command_has, is_change, master_key}
 use Rattle.node_rules.specs.Choices.{Choices}
 use Rattle.node_rules.specs.Run.{entries_from, world_step}
 use Rattle.node_rules.specs.World.{World, new_world}
-use Rattle.run_table.specs.Orders.{IsFitting, OrderFits, before_order, order_is_keyed, order_is_planned}
-use Rattle.run_table.specs.SameTable.{NamesSecond}
+use Rattle.run_table.specs.Orders.{IsFitting, OrderFits, before_order, is_order_line}
+use Rattle.run_control.specs.Sound.{AddsSecond}
 use Rattle.run_table.specs.View.{View, planned, view}
 use Rattle.run_table.specs.Words.{Words, hears, is_word_line, lines_in, notes_of, order_sends, orders}
 use Rattle.run_table.proofs.LineWords.{quiet_line}
-use Rattle.run_table.proofs.Runs.{Lasts, each_if, lasts_new, lasts_next}
+use Rattle.run_table.proofs.Runs.{Lasts, lasts_new, lasts_next}
+use Rattle.run_words.specs.Parts.{at_lines}
+use Rattle.run_words.proofs.Runs.{each_if}
 use Rattle.run_table.proofs.Steps.{agrees_after}
 use Rattle.run_table.proofs.Views.{hears_answer, judged_view, noted_view}
 
@@ -156,7 +161,7 @@ module _ (f : OfOrder) where
       fits_so w v None fits x is = absurd cc
       fits_so w v (Some y) fits x is = let same : y ≡ x = cc in fitting (before_order w v) x (subst (λ z. IsFitting (before_order w v) z) same fits)
 
-      lines_fit : (w : World) (p : Past) (e : Event) → NamesSecond e → Lasts p w → let x = (world_step c w e).1 in EachLine t (judged x.event x.answer p) x.lines
+      lines_fit : (w : World) (p : Past) (e : Event) → AddsSecond e → Lasts p w → let x = (world_step c w e).1 in EachLine t (judged x.event x.answer p) x.lines
       lines_fit w p e names l =
           let x = (world_step c w e).1 in
           let v = hears_answer p e x.answer (view p) in
@@ -166,11 +171,19 @@ module _ (f : OfOrder) where
           let all : EachHeard v x.lines = of_words x.lines v (subst (λ xs. EachHeard v xs) (sym done.said) each) in
           of_lines_read x.lines (judged e x.answer p) (subst (λ u. EachHeard u x.lines) (sym (judged_view e x.answer p)) all)
 
-      pub each_fits : (h : Header) (policies : ℕ) (es : List Event) → AllByRecursion NamesSecond es → Each (of_lines t) (new_past h policies) (entries_from c (new_world h) es)
+      pub each_fits : (h : Header) (policies : ℕ) (es : List Event) → AllByRecursion AddsSecond es → Each (of_lines t) (new_past h policies) (entries_from c (new_world h) es)
       each_fits h policies es names =
-          each_if c (of_lines t) Lasts lines_fit (λ w p e name l. refl) (λ w p e name l. lasts_next c w p e name l) es names (new_world h) (new_past h policies) (lasts_new h policies)
+          each_if c (of_lines t) AddsSecond Lasts lines_fit (λ w p e name l. refl) (λ w p e name l. lasts_next c w p e name l) es names (new_world h) (new_past h policies) (lasts_new h policies)
 
 -- ---- the plan
+
+-- the claim on plans, of this record alone
+abbrev order_is_planned : Past → Line → Bool
+order_is_planned p x = if is_order_line x then is_planned p x else true
+
+-- the claim on the octets of keys, of this record alone
+abbrev order_is_keyed : Past → Line → Bool
+order_is_keyed p x = if is_order_line x then is_keyed p x else true
 
 abbrev plan_test : OfOrder
 plan_test v q key = if q.g == 0 then is_none q.sec && nat_le (length q.items) 0 else is_some_and (is_same_plan q) (planned v.plans q.g)
@@ -266,11 +279,11 @@ reads_key p (line.Send l (flight.End id g)) = refl
 reads_key p (line.Send l (flight.Told id g count)) = refl
 
 -- each record by which a plan is carried out carries the plan that was drawn with its generation
-pub orders_planned : (c : Choices) (h : Header) (policies : ℕ) (es : List Event) → AllByRecursion NamesSecond es
-    → Each (of_lines order_is_planned) (new_past h policies) (entries_from c (new_world h) es)
+pub orders_planned : (c : Choices) (h : Header) (policies : ℕ) (es : List Event) → AllByRecursion AddsSecond es
+    → Each (at_lines is_order_line (claim claims.planned)) (new_past h policies) (entries_from c (new_world h) es)
 orders_planned c h policies es names = each_fits plan_test order_is_planned reads_plan plan_fits c h policies es names
 
 -- and the octets of the root that is current once it is carried out
-pub orders_keyed : (c : Choices) (h : Header) (policies : ℕ) (es : List Event) → AllByRecursion NamesSecond es
-    → Each (of_lines order_is_keyed) (new_past h policies) (entries_from c (new_world h) es)
+pub orders_keyed : (c : Choices) (h : Header) (policies : ℕ) (es : List Event) → AllByRecursion AddsSecond es
+    → Each (at_lines is_order_line (claim claims.keyed)) (new_past h policies) (entries_from c (new_world h) es)
 orders_keyed c h policies es names = each_fits key_test order_is_keyed reads_key (λ v x fits. fits.keyed) c h policies es names

@@ -1,19 +1,17 @@
 -- The table of the claims is the master's after any events of a run.
-use Rattle.std.proofs.Common.{ℕ, ◌≡◌, true, List, [], ◌∷◌, refl}
+use Rattle.std.proofs.Common.{ℕ, ◌≡◌, List, [], ◌∷◌, refl}
 use Rattle.std.specs.List.{AllByRecursion}
 use Rattle.std.specs.Prelude.{length}
 use Rattle.dc_base.specs.declared.events.Event.{Event}
 use Rattle.dc_base.specs.declared.events.Header.{Header}
-use Rattle.dc_base.specs.declared.events.Line.{Line}
-use Rattle.claims.specs.Claim.{Claim, Each, EachLine}
-use Rattle.claims.specs.Judged.{judged}
-use Rattle.claims.specs.Noted.{after, noted, past, past_from}
+use Rattle.claims.specs.Noted.{after, past, past_from}
 use Rattle.claims.specs.Past.{Past, new_past}
 use Rattle.node_rules.specs.Choices.{Choices}
 use Rattle.node_rules.specs.Run.{entries_from, world_after, world_step}
 use Rattle.node_rules.specs.World.{World, new_world}
 use Rattle.master_runs.proofs.Contents.{long_next}
-use Rattle.run_table.specs.SameTable.{Agree, NamesSecond, NoOrderInTunnels}
+use Rattle.run_control.specs.Sound.{AddsSecond}
+use Rattle.run_table.specs.SameTable.{Agree, NoOrderInTunnels}
 use Rattle.run_table.specs.View.{view}
 use Rattle.run_table.proofs.Steps.{agree_new, agree_next, agrees_after}
 use Rattle.run_table.proofs.Tunnels.{no_order_new, no_order_next}
@@ -27,7 +25,7 @@ pub record Lasts (p : Past) (w : World) : Type 0 where
 pub lasts_new : (h : Header) (policies : ℕ) → Lasts (new_past h policies) (new_world h)
 lasts_new h policies = record { agree = agree_new h policies; none = no_order_new h; long = refl }
 
-pub lasts_next : (c : Choices) (w : World) (p : Past) (e : Event) → NamesSecond e → Lasts p w → Lasts (after p (world_step c w e).1) (world_step c w e).0
+pub lasts_next : (c : Choices) (w : World) (p : Past) (e : Event) → AddsSecond e → Lasts p w → Lasts (after p (world_step c w e).1) (world_step c w e).0
 lasts_next c w p e names l =
     let done = agrees_after c w p (view p) e names l.none l.agree in record {
       agree = agree_next c w p e names l.none l.agree;
@@ -35,27 +33,12 @@ lasts_next c w p e names l =
       long = long_next c w e l.long;
     }
 
-lasts_on : (c : Choices) (es : List Event) → AllByRecursion NamesSecond es → (w : World) (p : Past) → Lasts p w → Lasts (past_from p (entries_from c w es)) (world_after c w es)
+lasts_on : (c : Choices) (es : List Event) → AllByRecursion AddsSecond es → (w : World) (p : Past) → Lasts p w → Lasts (past_from p (entries_from c w es)) (world_after c w es)
 lasts_on c [] names w p l = l
 lasts_on c (e ∷ es) names w p l = lasts_on c es names.1 (world_step c w e).0 (after p (world_step c w e).1) (lasts_next c w p e names.0 l)
 
 -- after any events of which each addition is of a secondary node, the command table and the open command of the claims are
 -- those of the master
-pub same_table : (c : Choices) (h : Header) (policies : ℕ) (es : List Event) → AllByRecursion NamesSecond es
+pub same_table : (c : Choices) (h : Header) (policies : ℕ) (es : List Event) → AllByRecursion AddsSecond es
     → Agree (view (past h policies (entries_from c (new_world h) es))) (world_after c (new_world h) es).master.proc
 same_table c h policies es names = (lasts_on c es names (new_world h) (new_past h policies) (lasts_new h policies)).agree
-
--- a claim holds of such a run where that gives it at each event
-module _ (c : Choices) (k : Claim) (Holds : Past → World → Type 0)
-    (lines : (w : World) (p : Past) (e : Event) → NamesSecond e → Holds p w → let x = (world_step c w e).1 in EachLine k.of_line (judged x.event x.answer p) x.lines)
-    (entry : (w : World) (p : Past) (e : Event) → NamesSecond e → Holds p w → let x = (world_step c w e).1 in k.of_entry p x (after p x) ≡ true)
-    (lasts : (w : World) (p : Past) (e : Event) → NamesSecond e → Holds p w → Holds (after p (world_step c w e).1) (world_step c w e).0) where
-  pub each_if : (es : List Event) → AllByRecursion NamesSecond es → (w : World) (p : Past) → Holds p w → Each k p (entries_from c w es)
-  each_if [] names w p l = tt
-  each_if (e ∷ es) names w p l =
-      (lines w p e names.0 l, entry w p e names.0 l, each_if es names.1 (world_step c w e).0 (after p (world_step c w e).1) (lasts w p e names.0 l))
-
--- of lines nothing is said
-pub no_line : (p : Past) (xs : List Line) → EachLine (λ q x. true) p xs
-no_line p [] = tt
-no_line p (x ∷ xs) = (refl, no_line (noted p x) xs)

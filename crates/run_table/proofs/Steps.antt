@@ -66,7 +66,8 @@ use Rattle.node_rules.specs.declared.inputs.Input.TheVariants.{Cmd, Come}
 use Rattle.node_rules.specs.declared.inputs.Outcome.{Outcome}
 use Rattle.run_table.specs.Orders.{OrderFits, before_order}
 use Rattle.run_table.specs.Quiet.{Adopted, Follows, IsBeside, IsQuiet, effects_of, has_plan, said}
-use Rattle.run_table.specs.SameTable.{Agree, IsSecond, NamesSecond, NoOrderInTunnels, SameCommand}
+use Rattle.run_control.specs.Sound.{AddsSecond, IsSecond}
+use Rattle.run_table.specs.SameTable.{Agree, NoOrderInTunnels, SameCommand}
 use Rattle.run_table.specs.View.{View, planned, view}
 use Rattle.run_table.specs.Words.{Words, by_words, hears, is_order_sent, is_word, is_word_line, lines_in, no_words, notes_of, order_sends, orders}
 use Rattle.run_table.proofs.Beginnings.{begins_it}
@@ -318,7 +319,7 @@ CommandGoes p v m (event.Recover id) = Goes (hears_event p (event.Recover id) v)
 CommandGoes p v m _ = ⊤
 
 -- a command that is not refused
-pub goes_command : (n : ℕ) (p : Past) (v : View) (m : MasterProc) (e : Event) → NamesSecond e → Agree v m → first_refusal (command_refusals n m e) ≡ None → CommandGoes p v m e
+pub goes_command : (n : ℕ) (p : Past) (v : View) (m : MasterProc) (e : Event) → AddsSecond e → Agree v m → first_refusal (command_refusals n m e) ≡ None → CommandGoes p v m e
 goes_command k p v m (event.Bearer id n first shape threshold policy) names agree none =
     let e = event.Bearer id n first shape threshold policy in
     let all = none_of (command_refusals k m e) none in
@@ -439,7 +440,7 @@ keeps_same p v e m o is k = subst (λ u. Keeps u m (effects_of o)) (sym (same_an
 idle : (v : View) (m : MasterProc) → Agree v m → Keeps v m quiet
 idle v m agree = keeps_quiet v m quiet (record { notes = refl; sends = refl }) agree
 
-event_keeps : (c : Choices) (m : MasterNode) (p : Past) (v : View) (e : Event) → NamesSecond e → Agree v m.proc → KeepsAfter p v e (master_event c m e)
+event_keeps : (c : Choices) (m : MasterNode) (p : Past) (v : View) (e : Event) → AddsSecond e → Agree v m.proc → KeepsAfter p v e (master_event c m e)
 event_keeps c m p v (event.Bearer id n first shape threshold policy) names agree =
     commanded_keeps c m p v (event.Bearer id n first shape threshold policy) agree (first_refusal (command_refusals (length c.policies) m.proc (event.Bearer id n first shape threshold policy))) (goes_command (length c.policies) p v m.proc (event.Bearer id n first shape threshold policy) names agree)
 event_keeps c m p v (event.Reshape id shape) names agree =
@@ -480,14 +481,14 @@ quiet_after : (p : Past) (v : View) (e : Event) (m : MasterProc) (o : Outcome) �
 quiet_after p v e m o is q agree = heard (hears_answer p e o.answer v) m o (keeps_same p v e m o is (keeps_quiet v m (effects_of o) q agree))
 
 -- an event that is given to a node as it is
-given_after : (c : Choices) (w : World) (p : Past) (v : View) (e : Event) → NamesSecond e → hears_event p e v ≡ v → Agree v w.master.proc → (x : Node)
+given_after : (c : Choices) (w : World) (p : Past) (v : View) (e : Event) → AddsSecond e → hears_event p e v ≡ v → Agree v w.master.proc → (x : Node)
     → AgreesAfter p v e (takes c w (Cmd e) x)
 given_after c w p v e names is agree T = quiet_after p v e w.master.proc (terminal_step c w.terminal (Cmd e)).1 is (terminal_quiet c w.terminal (Cmd e)) agree
 given_after c w p v e names is agree M = let done = master_event c w.master e in heard (hears_answer p e done.1.answer v) done.0.proc done.1 (event_keeps c w.master p v e names agree)
 given_after c w p v e names is agree A = quiet_after p v e w.master.proc (second_step c w.a (Cmd e)).1 is (second_quiet c w.a (Cmd e)) agree
 given_after c w p v e names is agree B = quiet_after p v e w.master.proc (second_step c w.b (Cmd e)).1 is (second_quiet c w.b (Cmd e)) agree
 
-command_after : (c : Choices) (w : World) (p : Past) (v : View) (e : Event) → NamesSecond e → Agree v w.master.proc → AgreesAfter p v e (takes c w (Cmd e) M)
+command_after : (c : Choices) (w : World) (p : Past) (v : View) (e : Event) → AddsSecond e → Agree v w.master.proc → AgreesAfter p v e (takes c w (Cmd e) M)
 command_after c w p v e names agree = let done = master_event c w.master e in heard (hears_answer p e done.1.answer v) done.0.proc done.1 (event_keeps c w.master p v e names agree)
 
 -- a flight that comes to a node
@@ -547,7 +548,7 @@ copy_after c w p v l i agree Tun (Some f) none = copied p v w.master.proc l i f 
 
 -- ---- an event
 
-pub agrees_after : (c : Choices) (w : World) (p : Past) (v : View) (e : Event) → NamesSecond e → NoOrderInTunnels w → Agree v w.master.proc → AgreesAfter p v e (carried_on c w (happening w e))
+pub agrees_after : (c : Choices) (w : World) (p : Past) (v : View) (e : Event) → AddsSecond e → NoOrderInTunnels w → Agree v w.master.proc → AgreesAfter p v e (carried_on c w (happening w e))
 agrees_after c w p v (event.Bearer id n first shape threshold policy) names none agree = command_after c w p v (event.Bearer id n first shape threshold policy) names agree
 agrees_after c w p v (event.Reshape id shape) names none agree = command_after c w p v (event.Reshape id shape) names agree
 agrees_after c w p v (event.Remove id) names none agree = command_after c w p v (event.Remove id) names agree
@@ -568,7 +569,7 @@ agrees_after c w p v (event.Again l i) names none agree =
     copy_after c w p v l i agree l.class (slice_get (flights_on l w.links) i) (λ is f at. no_order_at i (flights_on l w.links) f (none l is) at)
 
 -- an event of a run keeps both tables the same
-pub agree_next : (c : Choices) (w : World) (p : Past) (e : Event) → NamesSecond e → NoOrderInTunnels w → Agree (view p) w.master.proc
+pub agree_next : (c : Choices) (w : World) (p : Past) (e : Event) → AddsSecond e → NoOrderInTunnels w → Agree (view p) w.master.proc
     → Agree (view (after p (world_step c w e).1)) (world_step c w e).0.master.proc
 agree_next c w p e names none agree =
     let x = (world_step c w e).1 in

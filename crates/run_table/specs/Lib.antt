@@ -8,3 +8,5 @@ pub mod Orders
 pub mod Quiet
 -- the two tables
 pub mod SameTable
+-- the commands whose answers are by it
+pub mod Commands

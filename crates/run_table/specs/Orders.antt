@@ -1,17 +1,13 @@
 -- The record by which a plan is carried out.
-use Rattle.std.specs.Prelude.{Bool, List, None, Option, Some, true, ℕ, ◌&&◌, ◌≡◌, ◌≤◌, ⊤}
+use Rattle.std.specs.Prelude.{Bool, List, None, Option, Some, false, true, ℕ, ◌&&◌, ◌≡◌, ◌≤◌, ⊤}
 use Rattle.dc_base.specs.declared.events.Line.{Line}
 use Rattle.dc_base.specs.declared.events.Line.TheVariants as line
-use Rattle.dc_base.specs.declared.flights.Flight.TheVariants as flight
 use Rattle.dc_base.specs.declared.records.Plan.{Plan}
-use Rattle.dc_base.specs.declared.records.Rec.TheVariants as rec
 use Rattle.key_chain.specs.KeyNames.{octets}
-use Rattle.claims.specs.Past.{Past}
-use Rattle.claims.specs.Planned.{is_keyed, is_planned}
 use Rattle.claims.specs.Sameness.{is_same_octets}
 use Rattle.claims.specs.Table.{command_has, is_change, master_key}
 use Rattle.run_table.specs.View.{View, planned}
-use Rattle.run_table.specs.Words.{Words, by_words}
+use Rattle.run_table.specs.Words.{Words, by_words, orders}
 
 -- it carries the plan that was drawn with its generation, and the octets of the root that is current once it is carried out
 pub record IsFitting (v : View) (x : Plan × List ℕ) : Type 0 where
@@ -28,12 +24,7 @@ OrderFits v (Some x) = IsFitting v x
 abbrev pub before_order : Words → View → View
 before_order w v = by_words (record w { order = None }) v
 
--- the claim on plans, of this record alone
-abbrev pub order_is_planned : Past → Line → Bool
-order_is_planned p (line.Send l (flight.Ctl (rec.Reconf q key))) = is_planned p (line.Send l (flight.Ctl (rec.Reconf q key)))
-order_is_planned p _ = true
-
--- the claim on the octets of keys, of this record alone
-abbrev pub order_is_keyed : Past → Line → Bool
-order_is_keyed p (line.Send l (flight.Ctl (rec.Reconf q key))) = is_keyed p (line.Send l (flight.Ctl (rec.Reconf q key)))
-order_is_keyed p _ = true
+-- the line sends such a record
+abbrev pub is_order_line : Line → Bool
+is_order_line (line.Send l f) = orders f
+is_order_line _ = false

@@ -1,9 +1,7 @@
 -- The table of the claims is the master's.
 use Rattle.std.specs.List.{AllByRecursion, list_any}
 use Rattle.std.specs.Prelude.{Bool, List, None, Option, Some, [], false, filter, map, true, ℕ, ◌<◌, ◌≡◌, ◌≤◌, ◌∷◌, ⊤}
-use Rattle.dc_base.specs.Nodes.{is_mm, is_secondary}
-use Rattle.dc_base.specs.declared.events.Event.{Event}
-use Rattle.dc_base.specs.declared.events.Event.TheVariants as event
+use Rattle.dc_base.specs.Nodes.{is_mm}
 use Rattle.dc_base.specs.declared.nodes.Class.TheVariants.{Tun}
 use Rattle.dc_base.specs.declared.nodes.KeyName.{KeyName}
 use Rattle.dc_base.specs.declared.nodes.LinkId.{LinkId}
@@ -21,6 +19,7 @@ use Rattle.node_rules.specs.declared.commands.Command.{Command}
 use Rattle.node_rules.specs.declared.commands.Command.TheVariants.{Asked as asked, Gone as gone, Recovering as recovering}
 use Rattle.node_rules.specs.declared.commands.Row.{Row}
 use Rattle.node_rules.specs.World.{World, flights_on}
+use Rattle.run_control.specs.Sound.{IsSecond}
 use Rattle.run_table.specs.View.{View, planned}
 use Rattle.run_table.specs.Words.{orders}
 
@@ -75,11 +74,6 @@ abbrev pub Ascend : List Row → Type 0
 Ascend [] = ⊤
 Ascend (r ∷ rows) = AllByRecursion (λ (x : Row). r.id < x.id) rows × Ascend rows
 
--- the secondary node is one, where there is any
-abbrev pub IsSecond : Option Node → Type 0
-IsSecond None = ⊤
-IsSecond (Some x) = is_secondary x ≡ true
-
 -- the anchor of each bearer is where its shape has it, and without a secondary node each is the master's alone
 pub record IsPlaced (sec : Option Node) (rows : List Row) : Type 0 where
   pub anchors : AllByRecursion (λ (r : Row). r.anchor ≡ anchor_at sec r.shape) rows
@@ -126,11 +120,6 @@ pub record Agree (v : View) (m : MasterProc) : Type 0 where
   pub sound : IsSound m
 
 -- ---- what is asked of a run
-
--- an event adds no other node than a secondary one: so it is of each event of a script
-abbrev pub NamesSecond : Event → Type 0
-NamesSecond (event.Add x) = is_secondary x ≡ true
-NamesSecond _ = ⊤
 
 -- what stands in a tunnel is no record that has the terminal reconfigure
 abbrev pub NoOrderInTunnels : World → Type 0
