@@ -1,0 +1,2 @@
+-- recoveries between the master and a secondary node
+pub mod Recoveries
