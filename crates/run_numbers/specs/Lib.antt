@@ -1,0 +1,2 @@
+-- numbers of PDUs on links, and what legs count
+pub mod Counts
