@@ -1,0 +1,55 @@
+-- The claims that each run keeps, and of which of its events and lines.
+use Rattle.std.specs.Prelude.{List, ℕ}
+use Rattle.dc_base.specs.declared.events.Header.{Header}
+use Rattle.transcript.specs.Transcript.{Entry}
+use Rattle.claims.specs.Claim.{Claim, Each, of_entries, of_lines}
+use Rattle.claims.specs.Names.{cause, claim, consequence, keyed, on_link, planned, protected}
+use Rattle.claims.specs.Past.{new_past}
+use Rattle.run_words.specs.Parts.{at_events, at_lines, is_loss_or_copy}
+use Rattle.run_table.specs.Commands.{is_key_command}
+use Rattle.run_table.specs.Orders.{is_order_line}
+use Rattle.run_agreed.specs.BearerCauses.{is_bearer_command, is_master_report, submission_has_answer}
+use Rattle.run_seconds.specs.Answers.{is_second_event, step_has_answer}
+use Rattle.run_uplinks.specs.Answers.{terminal_is_answered, uplink_rises, uplinks_are_near}
+use Rattle.run_senders.specs.Fitting.{is_record_or_ack}
+use Rattle.run_senders.specs.Lines.{is_from_terminal, is_on_its_link}
+
+-- a claim holds of each entry of the transcript of a run with so many policies
+abbrev pub Keeps : Claim → Header → ℕ → List Entry → Type 0
+Keeps k h policies t = Each k (new_past h policies) t
+
+-- what holds of each entry of a transcript, by the names of the claims:
+-- each line after an answer is a note or a send (consequence);
+-- each send is on one of the 22 links, and the link is of the class of its flight; each record is moreover between the ends that
+-- such a record has (on_link, of records and acks);
+-- each loss and each copy, each event that adds, changes or releases the secondary node or gives a new key, and each that sets up,
+-- reshapes, drops or recovers a bearer, has the answer that it is due (cause);
+-- a submission has the answer that is due by the last `freed` line of its direction: a downlink one by the bearers of the master,
+-- an uplink one by those of the terminal; and so have the other events of the terminal, a report that is asked for there and the
+-- failure of the secondary cell group;
+-- so have the events of the secondary nodes: to be set to deny, which is always answered ok, and a request to the master, which is
+-- refused where the node has not joined or another request of it is open (cause);
+-- and so has a status report that is asked for at the master, which is refused where the bearer is not done or was dropped (cause);
+-- a step is refused where no flight stands at its place, or the link keeps its order and the flight is not the first, and not
+-- otherwise, but for the age of the flight;
+-- the next COUNT of an uplink is at most a window past its last `freed` line, and each such line is past the one before;
+-- each data PDU on a link from the terminal protects the submission of its tag, under the key of its plan (protected);
+-- each record that has the terminal reconfigure carries the plan that was drawn with its generation (planned), and the octets of
+-- the root that is current once it is carried out (keyed)
+pub record KeepsClaims (h : Header) (policies : ℕ) (t : List Entry) : Type 0 where
+  pub consequences : Keeps (claim consequence) h policies t
+  pub on_links : Keeps (of_lines (λ p x. is_on_its_link x)) h policies t
+  pub records : Keeps (at_lines is_record_or_ack (claim on_link)) h policies t
+  pub losses : Keeps (at_events is_loss_or_copy (claim cause)) h policies t
+  pub key_commands : Keeps (at_events is_key_command (claim cause)) h policies t
+  pub bearer_commands : Keeps (at_events is_bearer_command (claim cause)) h policies t
+  pub submissions : Keeps (of_entries (λ p x q. submission_has_answer p x.answer x.event)) h policies t
+  pub at_terminal : Keeps (of_entries (λ p x q. terminal_is_answered p x)) h policies t
+  pub at_seconds : Keeps (at_events is_second_event (claim cause)) h policies t
+  pub master_reports : Keeps (at_events is_master_report (claim cause)) h policies t
+  pub steps : Keeps (of_entries (λ p x q. step_has_answer p x)) h policies t
+  pub uplink_windows : Keeps (of_entries (λ p x q. uplinks_are_near q)) h policies t
+  pub uplink_freed : Keeps (of_lines uplink_rises) h policies t
+  pub uplink_protected : Keeps (at_lines is_from_terminal (claim protected)) h policies t
+  pub plans : Keeps (at_lines is_order_line (claim planned)) h policies t
+  pub keys : Keeps (at_lines is_order_line (claim keyed)) h policies t

@@ -1,0 +1,2 @@
+-- the claims that a transcript keeps
+pub mod KeepsClaims
