@@ -1,0 +1,15 @@
+pub mod Cuts
+pub mod Taking
+pub mod Free
+pub mod Sorts
+pub mod Matching
+pub mod Distinct
+pub mod Beginning
+pub mod Nested
+pub mod Each
+pub mod Digits
+pub mod EventFields
+pub mod RecordFields
+pub mod FlightFields
+pub mod NoteFields
+pub mod Lines
