@@ -1,6 +1,6 @@
 -- Events of lines: that their entries are those of the lines.
 use Rattle.std.proofs.Common.{◌≡◌, ◌++◌, List, [], ◌∷◌, map, refl, sym, ap, ◌∙◌, subst, inl, inr, append_assoc, append-nil}
-use Rattle.std.specs.List.{flat_map}
+use Rattle.std.specs.List.{AllByRecursion, flat_map}
 use Rattle.std.proofs.lemmas.Grind.{flat_map-append}
 use Rattle.dc_base.specs.declared.events.Header.{Header}
 use Rattle.dc_base.specs.declared.events.Event.{Event}
@@ -18,6 +18,10 @@ use Rattle.dc_network.proofs.Counted.{counted-append}
 use Rattle.master_runs.specs.OfMaster.{AreOfMaster}
 use Rattle.master_runs.proofs.Contents.{first_loaded_is}
 use Rattle.master_runs.proofs.Runs.{whole_faithful}
+use Rattle.run_control.specs.Sound.{AddsSecond}
+use Rattle.run_control.specs.Claims.{NeverStalls}
+use Rattle.run_expected.proofs.Stalling.{never_stalls_always}
+use Rattle.run_claims.proofs.Keeping.{run_keeps_claims}
 use Rattle.dc_top.specs.Steps.{AreBegun, AreEventsOf, AreFirstSteps, Counting, counting_after, counting_after_all, events_text}
 use Rattle.dc_top.specs.Run.{AreEntriesOf, AreFirstEntriesOf, IsByRules, IsDrainStep, events_of}
 use Rattle.dc_top.proofs.Texts.{transcript_text-append}
@@ -65,11 +69,13 @@ module _ (c : Choices) where
 
   -- ---- the rules and the claims
 
-  pub ruled : (h : Header) (es : List Event) → IsByRules c h (entries h es)
-  ruled h es =
+  pub ruled : (h : Header) (es : List Event) → AllByRecursion AddsSecond es → IsByRules c h (entries h es)
+  ruled h es adds =
       let own : events_of (entries h es) ≡ es = events_are c (new_world h) es in
       record {
         by_rules = ap (entries h) (sym own);
+        keeps = run_keeps_claims c h es adds;
+        unstalled = subst (λ fs. NeverStalls (world_after c (new_world h) fs)) (sym own) (never_stalls_always c h es adds);
         faithful = λ all. whole_faithful c h es (subst AreOfMaster own all);
       }
 

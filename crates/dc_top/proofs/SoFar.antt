@@ -19,12 +19,14 @@ use Rattle.node_rules.specs.Choices.{Choices}
 use Rattle.node_rules.specs.Run.{entries_from, world_step}
 use Rattle.node_rules.specs.World.{new_world}
 use Rattle.dc_network.specs.Counting.{IsWithin, counted}
+use Rattle.run_control.specs.Sound.{AddsSecond}
 use Rattle.dc_top.specs.Script.{HasRead, HasBadHeader, HasBadLine, HasLine, IsInRange, IsTaken, IsTooLong, IsUnreadHeader, IsUnreadLine, script_line, most_line, most_octets}
 use Rattle.dc_top.specs.Steps.{AreBegun, AreEventsOf, Counting, HasRun, HasStoppedIn, IsUnwritten, counting_after_all, events_text, start}
 use Rattle.dc_top.specs.Run.{AreFirstEntriesOf, IsByRules, IsTranscriptOf, no_lines, one_more, IsFrontOf, whole, part, IsNextOf, next, RanTo, RanUpTo}
 use Rattle.dc_top.specs.Ended.{HasEnded, IsAhead, IsCutInEvent, PassesLimit}
 use Rattle.dc_top.proofs.Texts.{transcript_text-none}
-use Rattle.dc_top.proofs.Lines.{are_entries, are_first, counting, counting-more, entries, entries_more, ruled, state, state_more, text_more}
+use Rattle.dc_top.proofs.Adding.{adds_more, line_adds}
+use Rattle.dc_top.proofs.Lines.{are_entries, are_first, counting, counting-more, entries, entries_more, events_begun, ruled, state, state_more, text_more}
 use Rattle.dc_top.proofs.Worlds.{entries-next, within_front}
 use Rattle.dc_top.specs.SoFar.{IsAfterLines, IsAtRest, IsSoFar, ReadsOn}
 use Rattle.dc_top.proofs.Taken.{at_end_of_source, reads_first, reads_more, not_far, few_lines}
@@ -46,6 +48,7 @@ so_far_first c h k old new good is written = record {
   good = good;
   taken = tt;
   events = [];
+  adds = tt;
   after = is;
   transcript = no_lines;
   within = subst (λ (j : Counting). IsWithin j.counts) (sym is) within_nothing;
@@ -63,7 +66,7 @@ module _ (c : Choices) (h : Header) (lines : List Scripted) (k : Counting) (old 
     taken = s.taken;
     read = read;
     transcript = s.transcript;
-    ruled = ruled c h s.events;
+    ruled = ruled c h s.events s.adds;
     within = subst (λ (j : Counting). IsWithin j.counts) s.after s.within;
     spelled = refl;
   }
@@ -77,7 +80,7 @@ module _ (c : Choices) (h : Header) (lines : List Scripted) (k : Counting) (old 
     taken = s.taken;
     read = read;
     transcript = whole lines (entries c h s.events) s.transcript;
-    ruled = ruled c h s.events;
+    ruled = ruled c h s.events s.adds;
     within = subst (λ (j : Counting). IsWithin j.counts) s.after s.within;
     spelled = refl;
   }
@@ -124,6 +127,9 @@ module _ (c : Choices) (h : Header) (lines : List Scripted) (k : Counting) (old 
     text_is es =
         ap (λ (j : Counting). transcript_text h (entries c h s.events) ++ events_text c j.world es) s.after ∙ sym (text_more c h s.events es)
 
+    more_adds : (es : List Event) → AreBegun c line k es → AllByRecursion AddsSecond (s.events ++ es)
+    more_adds es begun = adds_more s.events es s.adds (line_adds c line k es in_range begun)
+
     counting_is : (es : List Event) → counting_after_all c k es ≡ counting c h (s.events ++ es)
     counting_is es = ap (λ j. counting_after_all c j es) s.after ∙ counting-more c h s.events es
 
@@ -134,6 +140,7 @@ module _ (c : Choices) (h : Header) (lines : List Scripted) (k : Counting) (old 
           good = s.good;
           taken = taken_more;
           events = s.events ++ es;
+          adds = more_adds es (events_begun c line k es all);
           after = run.after ∙ counting_is es;
           transcript = subst (IsTranscriptOf (lines ++ line ∷ [])) (sym (entries_more c h s.events es))
               (one_more lines (entries c h s.events) line (entries_from c (state c h s.events) es) s.transcript (are_entries c h line s.events es all'));
@@ -158,7 +165,7 @@ module _ (c : Choices) (h : Header) (lines : List Scripted) (k : Counting) (old 
       taken = taken_more;
       read = read;
       transcript = front_of es begun;
-      ruled = ruled c h (s.events ++ es);
+      ruled = ruled c h (s.events ++ es) (more_adds es begun);
       within = subst (λ (j : Counting). IsWithin j.counts) (counting_is es) within;
       spelled = refl;
     }
@@ -206,7 +213,7 @@ module _ (c : Choices) (h : Header) (lines : List Scripted) (k : Counting) (old 
       taken = taken_more;
       read = read;
       next = next_of es e more;
-      ruled = subst (IsByRules c h) (entries_one_more es e) (ruled c h (s.events ++ (es ++ e ∷ [])));
+      ruled = subst (IsByRules c h) (entries_one_more es e) (ruled c h (s.events ++ (es ++ e ∷ [])) (more_adds (es ++ e ∷ []) more));
       within = subst (λ (j : Counting). IsWithin j.counts) (counting_is es) within;
       spelled = refl;
     }

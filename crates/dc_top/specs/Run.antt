@@ -12,10 +12,12 @@ use Rattle.script_text.specs.Scripts.{IsScriptHeader}
 use Rattle.script_text.specs.declared.scripted.Scripted.{Scripted}
 use Rattle.script_text.specs.declared.scripted.Scripted.TheVariants.{One, Drain}
 use Rattle.node_rules.specs.Choices.{Choices}
-use Rattle.node_rules.specs.Run.{entries_from}
+use Rattle.node_rules.specs.Run.{entries_from, world_after}
 use Rattle.node_rules.specs.World.{new_world}
 use Rattle.dc_network.specs.Counting.{IsWithin, counted}
 use Rattle.master_runs.specs.OfMaster.{AreOfMaster}
+use Rattle.run_control.specs.Claims.{NeverStalls}
+use Rattle.run_claims.specs.KeepsClaims.{KeepsClaims}
 use Rattle.dc_top.specs.Script.{IsTaken, HasRead}
 
 -- an entry is the step of the first flight on the first link on which one stands after the entries before it
@@ -56,9 +58,12 @@ abbrev pub events_of : List Entry → List Event
 events_of entries = map (λ e. e.event) entries
 
 -- a transcript by the rules: its answers and lines are those that the rules of the nodes and the links give for its events,
--- from the opening state on; and where all its bearers are at the master, it meets all claims
+-- from the opening state on; it keeps the claims that every run keeps; in the state after it nothing stalls on the control plane;
+-- and where all its bearers are at the master, it meets all claims
 pub record IsByRules (c : Choices) (h : Header) (entries : List Entry) : Type 0 where
   pub by_rules : entries ≡ entries_from c (new_world h) (events_of entries)
+  pub keeps : KeepsClaims h (length c.policies) entries
+  pub unstalled : NeverStalls (world_after c (new_world h) (events_of entries))
   pub faithful : AreOfMaster (events_of entries) → IsFaithful h (length c.policies) entries
 
 -- a run of the header and the first lines of octets, of which this rest is left, and the text of its entries

@@ -11,6 +11,7 @@ use Rattle.node_rules.specs.Choices.{Choices}
 use Rattle.node_rules.specs.Run.{entries_from, world_after}
 use Rattle.node_rules.specs.World.{new_world}
 use Rattle.dc_network.specs.Counting.{IsWithin, counted}
+use Rattle.run_control.specs.Sound.{AddsSecond}
 use Rattle.dc_top.specs.Run.{IsTranscriptOf}
 use Rattle.dc_top.specs.Script.{HasRead, IsTaken, script_text}
 use Rattle.dc_top.specs.Steps.{Counting}
@@ -24,6 +25,7 @@ pub record IsSoFar (c : Choices) (h : Header) (lines : List Scripted) (k : Count
   pub good : IsScriptHeader h
   pub taken : AllByRecursion IsTaken lines
   pub events : List Event
+  pub adds : AllByRecursion AddsSecond events
   pub after : k ≡ counting_from c h events
   pub transcript : IsTranscriptOf lines (entries_from c (new_world h) events)
   pub within : IsWithin k.counts
