@@ -9,6 +9,3 @@ mod table;
 
 pub use drafts::{Draft, Draws};
 pub use table::CommandTable;
-
-#[cfg(test)]
-mod tests;

@@ -111,24 +111,3 @@ pub fn teid_parts(teid: u32) -> (Gen, DrbId, u8)
     };
     (teid / 128, id, (teid % 4) as u8)
 }
-
-#[cfg(test)]
-mod tests {
-    use super::*;
-    use std::test::Fail;
-
-    #[test]
-    fn identities_and_tunnels(rt: HostRuntime) -> Result<(), Fail> {
-        assert_eq!(rt; DrbId::new(0), None);
-        assert_eq!(rt; DrbId::new(33), None);
-        assert_eq!(rt; DrbId::new(1).ok_or("1 is an identity")?.get(), 1);
-        let last = DrbId::new(32).ok_or("32 is an identity")?;
-        assert_eq!(rt; last.get(), 32);
-        let first = DrbId::new(1).ok_or("1 is an identity")?;
-        assert_eq!(rt; teid_of(3, first, 1), 385);
-        assert_eq!(rt; teid_parts(385), (3, first, 1));
-        assert_eq!(rt; teid_of(16_777_215, last, 3), 2_147_483_647);
-        assert_eq!(rt; teid_parts(2_147_483_647), (16_777_215, last, 3));
-        Ok(())
-    }
-}

@@ -10,8 +10,6 @@ mod lists;
 mod nodes;
 mod numbers;
 mod records;
-#[cfg(test)]
-mod tests;
 
 pub use answers::{Answer, Refusal, Status, Word};
 pub use events::{Event, Header, Line, Note};

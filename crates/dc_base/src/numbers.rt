@@ -79,25 +79,3 @@ fn inferred(n: SnLen, reference: u32, sn: u32) -> Option<u32>
         None
     }
 }
-
-#[cfg(test)]
-mod tests {
-    use super::*;
-
-    #[test]
-    fn counts_near_a_window_edge(rt: HostRuntime) {
-        let rows = [
-            (SnLen::S12, 2048, 0, Some(0)),
-            (SnLen::S12, 2049, 0, Some(4096)),
-            (SnLen::S12, 0, 2048, None),
-            (SnLen::S12, 2047, 4095, None),
-            (SnLen::S12, 4_294_967_294, 4095, Some(4_294_967_295)),
-            (SnLen::S18, 131_072, 0, Some(0)),
-            (SnLen::S18, 131_073, 0, Some(262_144)),
-            (SnLen::S18, 4_294_967_295, 0, None),
-        ];
-        for (n, reference, sn, count) in rows {
-            assert_eq!(rt; infer(n, reference, sn_of(n, sn)), count);
-        }
-    }
-}

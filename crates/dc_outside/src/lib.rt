@@ -17,8 +17,6 @@ mod sink;
 mod source;
 mod std_forms;
 mod sure;
-#[cfg(test)]
-mod tests;
 
 pub use failed::Failed;
 pub use mem_sink::MemSink;

@@ -5,8 +5,6 @@
 mod hex_text;
 mod lines;
 mod numbers;
-#[cfg(test)]
-mod tests;
 mod writing;
 
 pub use hex_text::hex_octets;

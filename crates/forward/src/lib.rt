@@ -10,6 +10,3 @@ mod outgoing;
 pub use incoming::{ForwardIn, ListErr};
 pub use load::{Load, carried, frame_in, load_in};
 pub use outgoing::ForwardOut;
-
-#[cfg(test)]
-mod tests;

@@ -13,6 +13,3 @@ pub use decoding::decode;
 pub use encoding::encode;
 pub use faults::GtpErr;
 pub use packet::{GtpKind, Packet, PduNumber};
-
-#[cfg(test)]
-mod tests;

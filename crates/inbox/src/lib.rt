@@ -9,9 +9,6 @@ ghost use Rattle.dc_base.specs.Nodes.{node_number};
 ghost use Rattle.inbox.specs.Inbox.{claim, sender, IsSender, put_of, claims_but, claim_of, view_of, whole, Kept};
 ghost use Rattle.journals.specs.declared.entries.Message.{Message};
 
-#[cfg(test)]
-mod tests;
-
 use crossbeam_queue::protocol::{Join, Lesson, Outcome, Protocol, Split};
 use crossbeam_queue::{Pass, RuledArrayQueue};
 use journals::Message;

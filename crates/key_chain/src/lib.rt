@@ -9,6 +9,3 @@ mod mac;
 pub use derive::{k_sn, k_upenc};
 pub use key_book::{KeyBook, KeyErr};
 pub use mac::hmac;
-
-#[cfg(test)]
-mod tests;

@@ -5,6 +5,3 @@ mod host;
 mod sends;
 
 pub use host::LegHost;
-
-#[cfg(test)]
-mod tests;

@@ -7,9 +7,6 @@ ghost use Rattle.journals.specs.Journals.{Legal, Rising};
 ghost use Rattle.journals.specs.Merging.{Merged, Sorted, numbered, put_all};
 ghost use Rattle.merging.specs.Heads.{goes_first};
 
-#[cfg(test)]
-mod tests;
-
 use dc_base::{Event, Memory, Node, Seq};
 use journals::{JournalEntry, What};
 use std::alloc::Global;

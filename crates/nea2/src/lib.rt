@@ -9,8 +9,6 @@ mod key_schedule;
 mod planes;
 mod round_keys;
 mod stream;
-#[cfg(test)]
-mod tests;
 mod transposition;
 
 pub use cipher::Aes128;

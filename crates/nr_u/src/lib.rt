@@ -17,6 +17,3 @@ pub use decoding::decode;
 pub use encoding::encode;
 pub use frame::{Frame, NruErr, Range};
 pub use tunnel::{Arrival, Inbound, Outbound, Sent, Verdict};
-
-#[cfg(test)]
-mod tests;

@@ -9,6 +9,3 @@ mod status_report;
 pub use data_pdu::{encode_data, is_data};
 pub use pdu::{Pdu, PduErr, decode};
 pub use status_report::{encode_bitmap, encode_report, is_named};
-
-#[cfg(test)]
-mod tests;

@@ -8,6 +8,3 @@ mod tx;
 
 pub use kept_sdus::KeptSdus;
 pub use tx::{Tx, TxErr, TxParts};
-
-#[cfg(test)]
-mod tests;

@@ -8,8 +8,6 @@ mod lines;
 mod reading;
 mod scripted;
 mod spelling;
-#[cfg(test)]
-mod tests;
 mod words;
 
 pub use lines::{write_event, write_first, write_line, write_lines};

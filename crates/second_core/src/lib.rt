@@ -8,6 +8,3 @@ mod second;
 mod steps;
 
 pub use second::Second;
-
-#[cfg(test)]
-mod tests;

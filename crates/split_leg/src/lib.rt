@@ -9,6 +9,3 @@ mod policies;
 pub use leg::Pdu;
 pub use legs::{Legs, Route, SentAs};
 pub use policies::{Choice, Choose, Policies, Policy};
-
-#[cfg(test)]
-mod tests;

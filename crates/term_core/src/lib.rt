@@ -7,6 +7,3 @@ mod terminal;
 
 pub use half::TerminalHalf;
 pub use terminal::Terminal;
-
-#[cfg(test)]
-mod tests;

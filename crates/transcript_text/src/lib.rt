@@ -12,8 +12,6 @@ mod reading;
 mod records;
 mod rows;
 mod spelling;
-#[cfg(test)]
-mod tests;
 mod words;
 
 pub use fault::LineFault;

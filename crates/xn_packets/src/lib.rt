@@ -9,6 +9,3 @@ mod writing;
 pub use flights::{flight_named, weight};
 pub use reading::{Packet, read_packet};
 pub use writing::{down_packet, status_packet, up_packet};
-
-#[cfg(test)]
-mod tests;

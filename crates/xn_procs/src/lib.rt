@@ -14,6 +14,3 @@ mod ways;
 pub use faults::ProcErr;
 pub use master::MasterProc;
 pub use second::SecondProc;
-
-#[cfg(test)]
-mod tests;

@@ -1,0 +1,2 @@
+-- the worked row of merged journals
+pub mod Worked

@@ -1,6 +1,0 @@
-use Rattle.nr_u.proofs.tests.comes.Goals as goal
-use Rattle.nr_u.proofs.Numbers.{fits_each}
-
--- src/tests.rt:119:34
-pub came-requires-in-Some-clause-sn : goal.came-requires-in-Some-clause-sn
-came-requires-in-Some-clause-sn c = fits_each _ _ c.if-sn-lt4096.true
