@@ -140,12 +140,9 @@ impl ActiveAnchor {
         requires { IsPayload sdu }
         ensures { IfOk result (λ sends. (self.new, sends) ≡ submit_as (by_policies (margins policies.now)) self.old sdu (take_sdu self.old.entity.tx sdu)) }
     {
-        let again = sdu.copy()?;
-        match self.entity.take(sdu) {
-            Ok(count) => self.send_counts(policies, &[count]),
-            Err(TxErr::Memory) => Err(Memory),
-            Err(TxErr::Exhausted) => self.hold(again),
-            Err(TxErr::Full { .. }) => self.hold(again),
+        match self.entity.take_or_hold(sdu)? {
+            Some(count) => self.send_counts(policies, &[count]),
+            None => Ok(Seq::new(self.alloc)),
         }
     }
 

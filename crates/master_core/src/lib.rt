@@ -6,6 +6,3 @@ mod master;
 mod steps;
 
 pub use master::Master;
-
-#[cfg(test)]
-mod tests;

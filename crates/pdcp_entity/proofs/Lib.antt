@@ -5,3 +5,4 @@ mod Repeats
 mod Sends
 mod Confirmed
 mod Receiving
+mod Room

@@ -1,5 +1,5 @@
 -- What is kept or held was submitted.
-use Rattle.std.proofs.Common.{ℕ, ◌≡◌, ◌+◌, ◌≤◌, ◌==◌, Bool, true, false, List, [], ◌∷◌, ◌++◌, All, Option, Some, None, length, refl, ap, sym, ◌∙◌, subst, ◌-◌, ◌^◌, nat_lt, Result, Ok, Err, IfOk, OnErr}
+use Rattle.std.proofs.Common.{ℕ, ◌≡◌, ◌+◌, ◌==◌, Bool, true, false, List, [], ◌∷◌, ◌++◌, All, Some, length, refl, ap, sym, ◌∙◌, subst, ◌-◌, ◌^◌, nat_lt, Result, Ok, Err, IfOk, OnErr}
 use Rattle.std.specs.List.{enumerate_from, filter, range_with_len}
 use Rattle.std.proofs.lemmas.List.Elements.{All-append, All-cons, All-filter, All-head, All-nil, All-tail}
 use Rattle.pdcp_pdu.specs.DataPdu.{IsPayload}

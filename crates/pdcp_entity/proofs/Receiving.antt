@@ -1,5 +1,5 @@
 -- What comes.
-use Rattle.std.proofs.Common.{ℕ, ◌≡◌, ◌+◌, ◌≤◌, ◌<◌, ◌-◌, ◌^◌, ◌==◌, Bool, true, false, List, [], ◌++◌, Some, None, Option, length, arith, length-append, ap, refl, nat_lt, ◌∙◌}
+use Rattle.std.proofs.Common.{ℕ, ◌≡◌, ◌≤◌, ◌<◌, ◌-◌, ◌^◌, ◌==◌, Bool, true, false, List, [], Some, None, Option, length, arith, length-append, ap, refl, nat_lt, ◌∙◌}
 use Rattle.std.proofs.lemmas.Bool.{ne_eqb}
 use Rattle.dc_base.specs.Count.{count_for}
 use Rattle.node_rules.specs.Entity.{Entity, received_as, received_under, take_pdu}

@@ -1,11 +1,10 @@
 -- A PDU that goes on both legs is one send.
-use Rattle.std.proofs.Common.{ℕ, ◌≡◌, ◌≤◌, ◌∙◌, Bool, false, List, [], ◌∷◌, ◌++◌, length, take, Option, Some, None, refl, ap, sym, arith, Result, Ok, Err, OnOk}
+use Rattle.std.proofs.Common.{ℕ, ◌≡◌, ◌≤◌, ◌∙◌, Bool, false, List, [], ◌∷◌, length, Option, Some, None, refl, ap, sym, arith, Result, Ok, Err, OnOk}
 use Rattle.std.proofs.lemmas.List.{take-append-le}
-use Rattle.std.specs.List.{list_any}
 use Rattle.dc_base.specs.declared.nodes.Cell.TheVariants.{Mcg, Scg}
-use Rattle.node_rules.specs.Sending.{put_by, put_on, Pdu}
+use Rattle.node_rules.specs.Sending.{put_by, put_on}
 use Rattle.node_rules.specs.declared.bearers.OnLeg.{OnLeg}
-use Rattle.split_leg.specs.Legs.{LegsState, is_count, is_repeat, with_leg, with_pdu}
+use Rattle.split_leg.specs.Legs.{LegsState, is_repeat, with_leg, with_pdu}
 use Rattle.split_leg.specs.declared.legs.Route.TheVariants as route
 
 -- what the present send put on the MCG leg makes no PDU a repeat

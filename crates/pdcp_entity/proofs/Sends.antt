@@ -1,5 +1,5 @@
 -- PDUs are sent one after another.
-use Rattle.std.proofs.Common.{ℕ, ◌≡◌, ◌+◌, ◌<◌, ◌∙◌, Bool, List, [], ◌∷◌, ◌++◌, Option, Some, None, length, take, get_or, refl, ap, sym, append_assoc}
+use Rattle.std.proofs.Common.{ℕ, ◌≡◌, ◌+◌, ◌<◌, ◌∙◌, List, [], ◌∷◌, ◌++◌, Option, Some, None, length, take, get_or, refl, ap, sym, append_assoc}
 use Rattle.std.proofs.lemmas.List.{append-nil, take_more}
 use Rattle.std.specs.List.{cons_option, filter_map}
 use Rattle.std.specs.Option.{option_map}
@@ -9,7 +9,7 @@ use Rattle.node_rules.specs.Entity.{Entity, pdu_of}
 use Rattle.node_rules.specs.Sending.{Pdu, pdu_at, send_counts, send_each, send_one, sends}
 use Rattle.node_rules.specs.declared.bearers.OnLeg.{OnLeg}
 use Rattle.node_rules.specs.Setup.{Setup}
-use Rattle.pdcp_tx.specs.Sender.{Entry, sdu_at}
+use Rattle.pdcp_tx.specs.Sender.{sdu_at}
 use Rattle.split_leg.specs.Legs.{LegsState}
 
 -- first some, and then others

@@ -1,2 +1,3 @@
 -- the definitions that contracts cite
 pub mod Reading
+pub mod Room

@@ -1,6 +1,6 @@
 //! The PDCP entity.
 
-ghost use Rattle.std.specs.Prelude.{◌≡◌, ◌<◌, ◌≤◌, ◌+◌, ◌-◌, ◌^◌, ◌==◌, ◌++◌, [], ◌∷◌, false, length, All, IsNone, IfOk, IfErr, OnOk, OnErr};
+ghost use Rattle.std.specs.Prelude.{◌≡◌, ◌<◌, ◌≤◌, ◌+◌, ◌-◌, ◌^◌, ◌==◌, ◌++◌, [], ◌∷◌, false, length, All, Err, IsNone, IfOk, IfErr, IfSome, Ok, OnOk, OnErr};
 ghost use Rattle.std.specs.List.Sorted.{IsStrictlyIncreasing};
 ghost use Rattle.std.specs.Option.{option_map};
 ghost use Rattle.dc_base.specs.Count.{modulus, window};
@@ -10,18 +10,20 @@ ghost use Rattle.node_rules.specs.Sending.{send_counts, send_kept, send_report};
 ghost use Rattle.node_rules.specs.Setup.{with_failed_scg};
 ghost use Rattle.nr_u.specs.Tunnel.Incoming.{contains};
 ghost use Rattle.pdcp_entity.specs.Reading.{taken};
+ghost use Rattle.pdcp_entity.specs.Room.{has_room};
 ghost use Rattle.pdcp_pdu.specs.Bitmap.{names};
 ghost use Rattle.pdcp_pdu.specs.DataPdu.{IsPayload};
 ghost use Rattle.pdcp_pdu.specs.Pdu.{sdu};
 ghost use Rattle.pdcp_rx.specs.Receiver.{IsInOrder};
 ghost use Rattle.pdcp_tx.specs.Sender.{counts, low};
 ghost use Rattle.pdcp_tx.specs.Sending.{IsRefused, give_numbers, hold_sdu, take_sdu};
+ghost use Rattle.pdcp_tx.specs.declared.tx.TxErr.{TxErr};
 ghost use Rattle.split_leg.specs.Legs.{acked_count, leg_at, with_ack, with_leg};
 ghost use Rattle.split_leg.specs.Stored.{margins};
 
 use crate::confirming::{drop_each, set_of, those_in};
 use crate::setup::Setup;
-use dc_base::{Cell, Memory, Octets, Seq, Tag, infer};
+use dc_base::{Cell, Memory, Octets, Seq, Tag, infer, window};
 use node_rules::OnLeg;
 use pdcp_pdu::{Pdu, decode};
 use pdcp_rx::{Put, Rx, RxParts};
@@ -133,6 +135,37 @@ impl PdcpEntity {
         ensures err { OnErr result (self.new ≡ self.old) }
     {
         self.tx.hold(sdu)
+    }
+
+    // Whether an SDU can have a COUNT: the window has room for it, and a COUNT is left.
+    fn has_room(&self) -> bool
+        ensures { result ≡ has_room self.now.tx }
+    {
+        let next = self.tx.next();
+        let end = u64::from(self.tx.low()) + u64::from(window(self.setup.n()));
+        let is_full = end <= u64::from(next);
+        !is_full && next != u32::MAX
+    }
+
+    /// Gives an SDU of 1 to 9000 octets its COUNT and keeps it (TS 38.323, 5.2.1), or keeps it without one where the window is full
+    /// or no COUNT is left: the COUNT, or `None`.
+    pub fn take_or_hold(&mut self, sdu: Octets) -> Result<Option<u32>, Memory>
+        requires { IsPayload sdu }
+        ensures taken { IfOk result (λ found. IfSome found (λ count. take_sdu self.old.tx sdu ≡ Ok (self.new.tx, count))) }
+        ensures refused { IfOk result (λ found. IsNone found → (e : TxErr) × (take_sdu self.old.tx sdu ≡ Err e)) }
+        ensures held { IfOk result (λ found. IsNone found → self.new.tx ≡ hold_sdu self.old.tx sdu) }
+        ensures rest { self.new ≡ record self.old { tx = self.new.tx } }
+    {
+        if !self.has_room() {
+            self.hold(sdu)?;
+            return Ok(None);
+        }
+        match self.take(sdu) {
+            Ok(count) => Ok(Some(count)),
+            Err(TxErr::Memory) => Err(Memory),
+            Err(TxErr::Full { .. }) => unreachable!(),
+            Err(TxErr::Exhausted) => unreachable!(),
+        }
     }
 
     /// Gives the SDUs that are held their COUNTs, in order, and answers these. After an error all is as before.

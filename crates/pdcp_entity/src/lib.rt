@@ -6,8 +6,6 @@ mod confirming;
 mod entity;
 mod sending;
 mod setup;
-#[cfg(test)]
-mod tests;
 
 pub use entity::PdcpEntity;
 pub use setup::Setup;

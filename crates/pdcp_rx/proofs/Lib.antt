@@ -3,4 +3,7 @@ pub mod Counts
 pub mod Runs
 pub mod Putting
 pub mod MapWords
+pub mod Rings
+pub mod RingSteps
+pub mod Marks
 pub mod Laws

@@ -2,3 +2,5 @@
 pub mod Entries
 pub mod Run
 pub mod Receiver
+pub mod Ring
+pub mod Marks

@@ -6,12 +6,11 @@ ghost use Rattle.pdcp_pdu.specs.StatusReport.{NamesReceived, report_pdu, sent_se
 ghost use Rattle.pdcp_rx.specs.Entries.{counts_of, past_greatest};
 ghost use Rattle.pdcp_rx.specs.Receiver.{IsInOrder, put};
 
-use super::run::{first_gap, take_first};
+use super::ring::{Ring, counts, first_gap, insert, is_held, take_all, take_first};
 use dc_base::{Memory, Octets, Seq, SnLen};
 use pdcp_pdu::encode_report;
 use std::alloc::Global;
 use std::cmp::Ordering;
-use std::collections::BTreeMap;
 use std::marker::Model;
 
 /// All that a receiving entity holds: what one that freezes hands on, and what contracts see of one.
@@ -47,19 +46,20 @@ pub enum Put {
 pub struct Rx {
     n: SnLen,
     deliv: u32,
-    stored: BTreeMap<u32, Octets>,
+    next: u32,
+    ring: Ring,
     alloc: Global,
 }
 
 impl Model for Rx {
     ghost use Rattle.pdcp_rx.specs.declared.entity.RxParts.{RxParts};
-    ghost use Rattle.pdcp_rx.specs.Receiver.{IsInOrder};
+    ghost use Rattle.pdcp_rx.specs.Ring.{ring_from, IsKept};
 
     ghost Value = { RxParts };
 
-    ghost view = { λ a. record { n = a.n; deliv = a.deliv; stored = a.stored.entries } };
+    ghost view = { λ a. record { n = a.n; deliv = a.deliv; stored = ring_from a.ring a.deliv } };
 
-    ghost invariant = { λ a. IsInOrder (record { n = a.n; deliv = a.deliv; stored = a.stored.entries }) };
+    ghost invariant = { λ a. IsKept (record { n = a.n; deliv = a.deliv; stored = ring_from a.ring a.deliv }) a.next };
 }
 
 impl Rx {
@@ -70,7 +70,8 @@ impl Rx {
         Rx {
             n,
             deliv: first,
-            stored: BTreeMap::new(alloc),
+            next: first,
+            ring: Ring::new(alloc),
             alloc,
         }
     }
@@ -87,17 +88,14 @@ impl Rx {
     pub fn next(&self) -> u32
         ensures { result ≡ past_greatest self.now.deliv self.now.stored }
     {
-        match self.stored.last_key_value() {
-            Some((greatest, _)) => *greatest + 1,
-            None => self.deliv,
-        }
+        self.next
     }
 
     /// The COUNTs of the stored SDUs, ascending.
     pub fn stored(&self) -> Result<Seq<u32>, Memory>
         ensures { IfOk result (λ counts. counts ≡ counts_of self.now.stored) }
     {
-        let counts = self.stored.keys().copied().collect(self.alloc)?;
+        let counts = counts(self.alloc, &self.ring, self.deliv)?;
         Ok(Seq::from_vec(counts))
     }
 
@@ -131,12 +129,14 @@ impl Rx {
         ensures ok { IfOk result (λ answer. (self.new, answer) ≡ put self.old self.old.deliv sdu) }
         ensures err { OnErr result (self.new ≡ self.old) }
     {
-        let gap = first_gap(&self.stored, self.deliv + 1);
+        let first = self.deliv + 1;
+        let gap = first_gap(&self.ring, first);
         let number = (gap - self.deliv) as usize;
         let mut handed = Vec::with_capacity(self.alloc, number)?;
         handed.push((self.deliv, sdu)).unwrap();
-        take_first(&mut self.stored, number - 1, &mut handed);
+        take_first(&mut self.ring, first, number - 1, &mut handed);
         self.deliv = gap;
+        self.next = self.next.max(gap);
         Ok(Put::Stored {
             handed: Seq::from_vec(handed),
         })
@@ -150,10 +150,11 @@ impl Rx {
         ensures ok { IfOk result (λ answer. (self.new, answer) ≡ put self.old count sdu) }
         ensures err { OnErr result (self.new ≡ self.old) }
     {
-        if self.stored.contains_key(&count) {
+        if is_held(&self.ring, self.deliv as usize, count as usize) {
             return Ok(Put::Again);
         }
-        self.stored.insert(count, sdu)?;
+        insert(self.alloc, &mut self.ring, self.deliv, count, sdu)?;
+        self.next = self.next.max(count + 1);
         Ok(Put::Stored {
             handed: Seq::new(self.alloc),
         })
@@ -164,10 +165,11 @@ impl Rx {
         ensures parts { IfOk result (λ parts. parts ≡ self) }
         ensures in_order { IfOk result IsInOrder }
     {
+        let mut ring = self.ring;
         Ok(RxParts {
             n: self.n,
             deliv: self.deliv,
-            stored: Seq::from_vec(self.stored.into_iter().collect(self.alloc)?),
+            stored: Seq::from_vec(take_all(self.alloc, &mut ring, self.deliv)?),
         })
     }
 
@@ -177,16 +179,17 @@ impl Rx {
         requires { IsInOrder parts }
         ensures { IfOk result (λ rx. rx ≡ parts) }
     {
-        let mut stored = BTreeMap::new(alloc);
+        let mut next = parts.deliv;
+        let mut ring = Ring::new(alloc);
         for (count, sdu) in parts.stored.into_vec() {
-            if stored.insert(count, sdu).is_err() {
-                return Err(Memory);
-            }
+            insert(alloc, &mut ring, parts.deliv, count, sdu)?;
+            next = next.max(count + 1);
         }
         Ok(Rx {
             n: parts.n,
             deliv: parts.deliv,
-            stored,
+            next,
+            ring,
             alloc,
         })
     }

@@ -2,9 +2,6 @@
 #![tactic(auto)]
 
 mod entity;
-mod run;
+mod ring;
 
 pub use entity::{Put, Rx, RxParts};
-
-#[cfg(test)]
-mod tests;

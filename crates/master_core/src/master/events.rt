@@ -23,12 +23,9 @@ impl Master {
     ) -> Result<Outcome, Memory>
         ensures { IfOk result (λ out. (self.new, out) ≡ master_event (by_policies (margins policies.now)) self.old event) }
     {
-        match &event {
-            Event::Submit { id, sdu, .. } => {
-                let sdu = sdu.copy()?;
-                self.submit(*id, sdu, policies)
-            }
-            Event::Report { id, .. } => self.report(*id, policies),
+        match event {
+            Event::Submit { id, sdu, .. } => self.submit(id, sdu, policies),
+            Event::Report { id, .. } => self.report(id, policies),
             Event::Bearer { .. } => self.command(&event, policies),
             Event::Reshape { .. } => self.command(&event, policies),
             Event::Remove { .. } => self.command(&event, policies),

@@ -1,4 +1,4 @@
-use Rattle.std.proofs.Common.{◌≡◌, ◌∷◌, ◌++◌, [], get_or, sym, ◌∙◌, ap, List, ℕ}
+use Rattle.std.proofs.Common.{sym, ◌∙◌}
 use Rattle.std.specs.BTreeSet.{contains as has}
 use Rattle.std.specs.Ordering.{nat_cmp}
 use Rattle.pdcp_entity.proofs.Confirmed.{passed_yes, passed_no}

@@ -5,7 +5,7 @@ use Rattle.std.specs.Ordering.{nat_cmp}
 use Rattle.std.proofs.lemmas.List.Elements.{filter_agree}
 use Rattle.nr_u.specs.Tunnel.Incoming.{contains}
 use Rattle.node_rules.specs.Entity.{Entity}
-use Rattle.pdcp_tx.specs.Sender.{Entry, counts}
+use Rattle.pdcp_tx.specs.Sender.{counts}
 use Rattle.pdcp_entity.proofs.Confirmed.{confirmed_all, confirmed_tx}
 use Rattle.pdcp_entity.proofs.Payloads.{payloads_stay}
 use Rattle.pdcp_entity.proofs.entity.PdcpEntity.confirm_all.Goals as goal

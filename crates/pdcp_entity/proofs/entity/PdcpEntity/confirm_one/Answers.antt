@@ -1,4 +1,4 @@
-use Rattle.std.proofs.Common.{◌≡◌, ◌==◌, true, false, not, ap, sym, ◌∙◌, Bool}
+use Rattle.std.proofs.Common.{◌≡◌, ◌==◌, true, false, not, ap, sym, ◌∙◌}
 use Rattle.std.specs.Option.{is_some}
 use Rattle.pdcp_tx.specs.Sender.{sdu_at}
 use Rattle.pdcp_entity.proofs.Confirmed.{confirmed_not, confirmed_one, is_some_copied}
