@@ -9,6 +9,3 @@ mod shown;
 
 pub use form::{Form, Kind};
 pub use output::run_form;
-
-#[cfg(test)]
-mod tests;

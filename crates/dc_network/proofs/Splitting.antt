@@ -1,5 +1,5 @@
 -- Notes and sends of an event in which a command ends, one after another.
-use Rattle.std.proofs.Common.{◌≡◌, ◌++◌, ◌∷◌, ◌||◌, [], Bool, List, true, false, refl, ap, inl, inr, sym, ◌∙◌}
+use Rattle.std.proofs.Common.{◌≡◌, ◌++◌, ◌∷◌, ◌||◌, [], Bool, List, true, false, refl, ap, inl, inr, not, sym, ◌∙◌}
 use Rattle.std.specs.Prelude.{filter}
 use Rattle.std.specs.List.{list_any}
 use Rattle.std.proofs.lemmas.List.{append-nil}
@@ -17,6 +17,16 @@ none_here p x xs none = elim (cases_Bool (p x)) [ inl yes' ↦ let bad : true �
 -- so the rest does not either
 pub none_later : {X : Type 0} (p : X → Bool) (x : X) (xs : List X) → list_any p (x ∷ xs) ≡ false → list_any p xs ≡ false
 none_later p x xs none = elim (cases_Bool (p x)) [ inl yes' ↦ let bad : true ≡ false = rw yes' at none in cc | inr no' ↦ rw no' at none ]
+
+-- where none passes, none is left of the list
+pub none_pass : {X : Type 0} (p : X → Bool) (xs : List X) → list_any p xs ≡ false → filter p xs ≡ []
+none_pass p [] none = refl
+none_pass p (x ∷ xs) none = rw (none_here p x xs none) (none_pass p xs (none_later p x xs none))
+
+-- and where what passes is taken away, all is left
+pub all_fail : {X : Type 0} (p : X → Bool) (xs : List X) → list_any p xs ≡ false → filter (λ x. not (p x)) xs ≡ xs
+all_fail p [] none = refl
+all_fail p (x ∷ xs) none = rw (none_here p x xs none) (ap (λ zs. x ∷ zs) (all_fail p xs (none_later p x xs none)))
 
 -- ---- notes
 

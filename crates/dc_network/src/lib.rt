@@ -11,6 +11,3 @@ pub use counting::Counts;
 pub use network::{Happened, Network};
 pub use outcome_lines::lines_of;
 pub use world::World;
-
-#[cfg(test)]
-mod tests;

@@ -72,7 +72,23 @@ fn has_begun(begun: bool, flight: &Flight) -> bool
     begun || opens_release(flight)
 }
 
-/// Writes the notes of a place, and gives the others back, each in their order.
+/// Whether one of the notes stands at this place.
+fn has_note_at(notes: &[Note], at: u8) -> bool
+    ensures { result ≡ list_any (λ x. place x == at) notes.now }
+{
+    notes.iter().any(|note| place(note) == at)
+}
+
+/// Whether one of the sends is on this link.
+fn has_send_on(sends: &[(LinkId, Flight)], link: LinkId) -> bool
+    ensures { result ≡ list_any (λ s. is_same_link link s.0) sends.now }
+{
+    sends
+        .iter()
+        .any(|(on, _flight)| link.number() == on.number())
+}
+
+/// Writes the notes of a place, and gives the others back, each in their order. Where none stands there, none moves.
 fn write_place(
     alloc: Global,
     notes: Vec<Note>,
@@ -82,6 +98,9 @@ fn write_place(
     ensures others { IfOk result (λ others. others.items ≡ filter (λ x. not (place x == at)) notes.items) }
     ensures written { OnOk result (lines.new ≡ lines.old ++ notes_at notes.items at) }
 {
+    if !has_note_at(notes.as_slice(), at) {
+        return Ok(notes);
+    }
     let mut others = Vec::new(alloc);
     for note in notes {
         if place(&note) == at {
@@ -93,7 +112,7 @@ fn write_place(
     Ok(others)
 }
 
-/// Writes the sends on a link, and gives the others back, each in their order.
+/// Writes the sends on a link, and gives the others back, each in their order. Where none is on it, none moves.
 fn write_link(
     alloc: Global,
     sends: Vec<(LinkId, Flight)>,
@@ -103,6 +122,9 @@ fn write_link(
     ensures others { IfOk result (λ others. others.items ≡ filter (λ s. not (is_same_link link s.0)) sends.items) }
     ensures written { OnOk result (lines.new ≡ lines.old ++ sends_on sends.items link) }
 {
+    if !has_send_on(sends.as_slice(), link) {
+        return Ok(sends);
+    }
     let mut others = Vec::new(alloc);
     for (on, flight) in sends {
         if link.number() == on.number() {

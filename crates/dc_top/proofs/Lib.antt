@@ -4,5 +4,4 @@ pub mod Worlds
 pub mod Taken
 pub mod Adding
 pub mod Lines
-pub mod Happening
 pub mod SoFar

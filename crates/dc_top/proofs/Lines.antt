@@ -1,10 +1,12 @@
 -- Events of lines: that their entries are those of the lines.
-use Rattle.std.proofs.Common.{◌≡◌, ◌++◌, List, [], ◌∷◌, map, refl, sym, ap, ◌∙◌, subst, inl, inr, append_assoc, append-nil}
+use Rattle.std.proofs.Common.{◌≡◌, ◌+◌, ◌<◌, ◌≤◌, ◌^◌, ◌++◌, List, [], ◌∷◌, length, map, refl, sym, ap, ◌∙◌, subst, inl, inr, arith, append_assoc, append-nil}
 use Rattle.std.specs.List.{AllByRecursion, flat_map}
 use Rattle.std.proofs.lemmas.Grind.{flat_map-append}
+use Rattle.std.proofs.lemmas.List.{length-map}
 use Rattle.dc_base.specs.declared.events.Header.{Header}
 use Rattle.dc_base.specs.declared.events.Event.{Event}
 use Rattle.dc_base.specs.declared.events.Line.{Line}
+use Rattle.dc_base.specs.declared.events.Line.TheVariants as line
 use Rattle.transcript.specs.Content.{first_loaded}
 use Rattle.transcript.specs.Transcript.{Entry, EachFrom, entry_lines, transcript_text}
 use Rattle.script_text.specs.declared.scripted.Scripted.{Scripted}
@@ -13,19 +15,24 @@ use Rattle.node_rules.specs.Choices.{Choices}
 use Rattle.node_rules.specs.Run.{entries_from, world_after, world_step}
 use Rattle.node_rules.specs.World as world
 use Rattle.node_rules.specs.World.{World, new_world}
-use Rattle.dc_network.specs.Counting.{Counted, counted, counts_of_both}
+use Rattle.dc_network.specs.Counting.{Counted, IsWithin, counted, counts_of_both}
 use Rattle.dc_network.proofs.Counted.{counted-append}
 use Rattle.master_runs.specs.OfMaster.{AreOfMaster}
 use Rattle.master_runs.proofs.Contents.{first_loaded_is}
 use Rattle.master_runs.proofs.Runs.{whole_faithful}
-use Rattle.run_control.specs.Sound.{AddsSecond}
 use Rattle.run_control.specs.Claims.{NeverStalls}
+use Rattle.run_control.specs.Sound.{AddsSecond}
 use Rattle.run_expected.proofs.Stalling.{never_stalls_always}
+use Rattle.run_relays.specs.Ranges.{NamesIdentity}
 use Rattle.run_claims.proofs.Keeping.{run_keeps_claims}
-use Rattle.dc_top.specs.Steps.{AreBegun, AreEventsOf, AreFirstSteps, Counting, counting_after, counting_after_all, events_text}
+use Rattle.transcript.proofs.OnEach.{each_weaker}
+use Rattle.counted_network.specs.Counted.{Counting, counting_after, counting_after_all}
+use Rattle.dc_top.specs.Steps.{AreBegun, AreEventsOf, AreFirstSteps, events_text}
 use Rattle.dc_top.specs.Run.{AreEntriesOf, AreFirstEntriesOf, IsByRules, IsDrainStep, events_of}
+use Rattle.dc_top.specs.SoFar.{IsFit}
 use Rattle.dc_top.proofs.Texts.{transcript_text-append}
-use Rattle.dc_top.proofs.Worlds.{entries-append, entries-next, events_are, world_after-append, world_after-next}
+use Rattle.counted_network.proofs.Events.{entries-append, entries-next, world_after-append, world_after-next}
+use Rattle.dc_top.proofs.Worlds.{events_are}
 
 module _ (c : Choices) where
   pub events_begun : (line : Scripted) (k : Counting) (es : List Event) → AreEventsOf c line k es → AreBegun c line k es
@@ -67,14 +74,36 @@ module _ (c : Choices) where
   counting-more h es (f ∷ fs) =
       ap (λ k. counting_after_all c k fs) (counting-next h es f) ∙ counting-more h (es ++ f ∷ []) fs ∙ ap (counting h) (append_assoc es (f ∷ []) fs)
 
+  -- ---- how many events there are
+
+  events_counted : (t : List Entry) → length t ≤ (counted (flat_map entry_lines t)).events
+  events_counted [] = omega arith
+  events_counted (e ∷ t) =
+      let rest = events_counted t in
+      let own : (counted (entry_lines e)).events ≡ 1 + (counted (line.Answer e.answer ∷ e.lines)).events =
+      ap (λ (k : Counted). k.events) (counted-append (line.Event e.event ∷ []) (line.Answer e.answer ∷ e.lines)) in
+      let sum : (counted (flat_map entry_lines (e ∷ t))).events ≡ (counted (entry_lines e)).events + (counted (flat_map entry_lines t)).events =
+      ap (λ (k : Counted). k.events) (counted-append (entry_lines e) (flat_map entry_lines t)) in
+      omega (arith, rest, own, sum)
+
+  -- a run within its limits has few
+  pub few_within : (h : Header) (es : List Event) → IsWithin (counted (flat_map entry_lines (entries h es))) → length es ≤ 2 ^ 20
+  few_within h es within =
+      let all : length (entries h es) ≡ length es = sym (length-map (entries h es) (λ e. e.event)) ∙ ap (λ (fs : List Event). length fs) (events_are c (new_world h) es) in
+      let counts = events_counted (entries h es) in
+      let most = within.events in
+      omega (arith, all, counts, most)
+
   -- ---- the rules and the claims
 
-  pub ruled : (h : Header) (es : List Event) → AllByRecursion AddsSecond es → IsByRules c h (entries h es)
-  ruled h es adds =
+  pub ruled : (h : Header) (es : List Event) → AllByRecursion IsFit es → length es < 2 ^ 23 → IsByRules c h (entries h es)
+  ruled h es fit few =
       let own : events_of (entries h es) ≡ es = events_are c (new_world h) es in
+      let adds = each_weaker IsFit AddsSecond (λ e is. is.0) es fit in
+      let names = each_weaker IsFit NamesIdentity (λ e is. is.1) es fit in
       record {
         by_rules = ap (entries h) (sym own);
-        keeps = run_keeps_claims c h es adds;
+        keeps = run_keeps_claims c h es adds names few;
         unstalled = subst (λ fs. NeverStalls (world_after c (new_world h) fs)) (sym own) (never_stalls_always c h es adds);
         faithful = λ all. whole_faithful c h es (subst AreOfMaster own all);
       }

@@ -1,5 +1,5 @@
 -- A run after its first lines, and one more line.
-use Rattle.std.proofs.Common.{Bool, false, true, ℕ, ◌≡◌, ◌+◌, ◌≤◌, ◌++◌, List, [], ◌∷◌, Option, Some, length, take, refl, sym, ap, ◌∙◌, subst, arith, inl, inr, append_assoc, append-nil}
+use Rattle.std.proofs.Common.{Bool, false, true, ℕ, ◌≡◌, ◌+◌, ◌<◌, ◌≤◌, ◌^◌, ◌++◌, List, [], ◌∷◌, Option, Some, length, take, refl, sym, ap, ◌∙◌, subst, arith, inl, inr, append_assoc, append-nil}
 use Rattle.std.specs.Prelude.{IfSome}
 use Rattle.std.specs.List.{AllByRecursion, flat_map}
 use Rattle.std.specs.Io.KnownBytes.{Appends, IsAtEnd, prepend_known}
@@ -19,16 +19,16 @@ use Rattle.node_rules.specs.Choices.{Choices}
 use Rattle.node_rules.specs.Run.{entries_from, world_step}
 use Rattle.node_rules.specs.World.{new_world}
 use Rattle.dc_network.specs.Counting.{IsWithin, counted}
-use Rattle.run_control.specs.Sound.{AddsSecond}
 use Rattle.dc_top.specs.Script.{HasRead, HasBadHeader, HasBadLine, HasLine, IsInRange, IsTaken, IsTooLong, IsUnreadHeader, IsUnreadLine, script_line, most_line, most_octets}
-use Rattle.dc_top.specs.Steps.{AreBegun, AreEventsOf, Counting, HasRun, HasStoppedIn, IsUnwritten, counting_after_all, events_text, start}
+use Rattle.counted_network.specs.Counted.{Counting, counting_after_all, start}
+use Rattle.dc_top.specs.Steps.{AreBegun, AreEventsOf, HasRun, HasStoppedIn, IsUnwritten, events_text}
 use Rattle.dc_top.specs.Run.{AreFirstEntriesOf, IsByRules, IsTranscriptOf, no_lines, one_more, IsFrontOf, whole, part, IsNextOf, next, RanTo, RanUpTo}
 use Rattle.dc_top.specs.Ended.{HasEnded, IsAhead, IsCutInEvent, PassesLimit}
 use Rattle.dc_top.proofs.Texts.{transcript_text-none}
-use Rattle.dc_top.proofs.Adding.{adds_more, line_adds}
-use Rattle.dc_top.proofs.Lines.{are_entries, are_first, counting, counting-more, entries, entries_more, events_begun, ruled, state, state_more, text_more}
-use Rattle.dc_top.proofs.Worlds.{entries-next, within_front}
-use Rattle.dc_top.specs.SoFar.{IsAfterLines, IsAtRest, IsSoFar, ReadsOn}
+use Rattle.dc_top.proofs.Adding.{fit_more, line_fits}
+use Rattle.dc_top.proofs.Lines.{are_entries, are_first, counting, counting-more, entries, entries_more, events_begun, few_within, ruled, state, state_more, text_more}
+use Rattle.counted_network.proofs.Events.{entries-next, within_front}
+use Rattle.dc_top.specs.SoFar.{IsAfterLines, IsAtRest, IsFit, IsSoFar, ReadsOn}
 use Rattle.dc_top.proofs.Taken.{at_end_of_source, reads_first, reads_more, not_far, few_lines}
 
 -- where the octets are told
@@ -48,12 +48,15 @@ so_far_first c h k old new good is written = record {
   good = good;
   taken = tt;
   events = [];
-  adds = tt;
+  fit = tt;
   after = is;
   transcript = no_lines;
   within = subst (λ (j : Counting). IsWithin j.counts) (sym is) within_nothing;
   written = subst (Appends old new) (sym (transcript_text-none h)) written;
 }
+
+few_so_far : (c : Choices) (h : Header) (lines : List Scripted) (k : Counting) (old mid : Option (List ℕ)) (s : IsSoFar c h lines k old mid) → length s.events < 2 ^ 23
+few_so_far c h lines k old mid s = let few = few_within c h s.events (subst (λ (j : Counting). IsWithin j.counts) s.after s.within) in omega (arith, few)
 
 module _ (c : Choices) (h : Header) (lines : List Scripted) (k : Counting) (old mid : Option (List ℕ)) (s : IsSoFar c h lines k old mid) where
   -- the run of the lines so far
@@ -66,7 +69,7 @@ module _ (c : Choices) (h : Header) (lines : List Scripted) (k : Counting) (old 
     taken = s.taken;
     read = read;
     transcript = s.transcript;
-    ruled = ruled c h s.events s.adds;
+    ruled = ruled c h s.events s.fit (few_so_far c h lines k old mid s);
     within = subst (λ (j : Counting). IsWithin j.counts) s.after s.within;
     spelled = refl;
   }
@@ -80,7 +83,7 @@ module _ (c : Choices) (h : Header) (lines : List Scripted) (k : Counting) (old 
     taken = s.taken;
     read = read;
     transcript = whole lines (entries c h s.events) s.transcript;
-    ruled = ruled c h s.events s.adds;
+    ruled = ruled c h s.events s.fit (few_so_far c h lines k old mid s);
     within = subst (λ (j : Counting). IsWithin j.counts) s.after s.within;
     spelled = refl;
   }
@@ -127,11 +130,24 @@ module _ (c : Choices) (h : Header) (lines : List Scripted) (k : Counting) (old 
     text_is es =
         ap (λ (j : Counting). transcript_text h (entries c h s.events) ++ events_text c j.world es) s.after ∙ sym (text_more c h s.events es)
 
-    more_adds : (es : List Event) → AreBegun c line k es → AllByRecursion AddsSecond (s.events ++ es)
-    more_adds es begun = adds_more s.events es s.adds (line_adds c line k es in_range begun)
+    more_fit : (es : List Event) → AreBegun c line k es → AllByRecursion IsFit (s.events ++ es)
+    more_fit es begun = fit_more s.events es s.fit (line_fits c line k es in_range begun)
 
     counting_is : (es : List Event) → counting_after_all c k es ≡ counting c h (s.events ++ es)
     counting_is es = ap (λ j. counting_after_all c j es) s.after ∙ counting-more c h s.events es
+
+    -- within the limits there are few events, and with one more there are
+    few_upto : (es : List Event) → IsWithin (counting_after_all c k es).counts → length (s.events ++ es) ≤ 2 ^ 20
+    few_upto es within = few_within c h (s.events ++ es) (subst (λ (j : Counting). IsWithin j.counts) (counting_is es) within)
+
+    few_more : (es : List Event) → IsWithin (counting_after_all c k es).counts → length (s.events ++ es) < 2 ^ 23
+    few_more es within = let few = few_upto es within in omega (arith, few)
+
+    few_with_one : (es : List Event) (e : Event) → IsWithin (counting_after_all c k es).counts → length (s.events ++ (es ++ e ∷ [])) < 2 ^ 23
+    few_with_one es e within =
+        let few = few_upto es within in
+        let one = ap (λ (fs : List Event). length fs) (sym (append_assoc s.events es (e ∷ []))) ∙ length_push (s.events ++ es) e in
+        omega (arith, few, one)
 
     pub so_far_next : (es : List Event) (k' : Counting) (new : Option (List ℕ)) → AreEventsOf c line k es → HasRun c k es k' mid new → IsSoFar c h (lines ++ line ∷ []) k' old new
     so_far_next es k' new all run =
@@ -140,7 +156,7 @@ module _ (c : Choices) (h : Header) (lines : List Scripted) (k : Counting) (old 
           good = s.good;
           taken = taken_more;
           events = s.events ++ es;
-          adds = more_adds es (events_begun c line k es all);
+          fit = more_fit es (events_begun c line k es all);
           after = run.after ∙ counting_is es;
           transcript = subst (IsTranscriptOf (lines ++ line ∷ [])) (sym (entries_more c h s.events es))
               (one_more lines (entries c h s.events) line (entries_from c (state c h s.events) es) s.transcript (are_entries c h line s.events es all'));
@@ -165,7 +181,7 @@ module _ (c : Choices) (h : Header) (lines : List Scripted) (k : Counting) (old 
       taken = taken_more;
       read = read;
       transcript = front_of es begun;
-      ruled = ruled c h (s.events ++ es) (more_adds es begun);
+      ruled = ruled c h (s.events ++ es) (more_fit es begun) (few_more es within);
       within = subst (λ (j : Counting). IsWithin j.counts) (counting_is es) within;
       spelled = refl;
     }
@@ -213,7 +229,7 @@ module _ (c : Choices) (h : Header) (lines : List Scripted) (k : Counting) (old 
       taken = taken_more;
       read = read;
       next = next_of es e more;
-      ruled = subst (IsByRules c h) (entries_one_more es e) (ruled c h (s.events ++ (es ++ e ∷ [])) (more_adds (es ++ e ∷ []) more));
+      ruled = subst (IsByRules c h) (entries_one_more es e) (ruled c h (s.events ++ (es ++ e ∷ [])) (more_fit (es ++ e ∷ []) more) (few_with_one es e within));
       within = subst (λ (j : Counting). IsWithin j.counts) (counting_is es) within;
       spelled = refl;
     }

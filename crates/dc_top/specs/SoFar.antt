@@ -12,20 +12,25 @@ use Rattle.node_rules.specs.Run.{entries_from, world_after}
 use Rattle.node_rules.specs.World.{new_world}
 use Rattle.dc_network.specs.Counting.{IsWithin, counted}
 use Rattle.run_control.specs.Sound.{AddsSecond}
+use Rattle.run_relays.specs.Ranges.{NamesIdentity}
 use Rattle.dc_top.specs.Run.{IsTranscriptOf}
 use Rattle.dc_top.specs.Script.{HasRead, IsTaken, script_text}
-use Rattle.dc_top.specs.Steps.{Counting}
+use Rattle.counted_network.specs.Counted.{Counting}
 
 -- what there is after events from the start
 abbrev pub counting_from : Choices → Header → List Event → Counting
 counting_from c h es = record { world = world_after c (new_world h) es; counts = counted (flat_map entry_lines (entries_from c (new_world h) es)) }
+
+-- an event adds no node but a secondary one, and a bearer that it sets up has an identity of 1 to 32
+abbrev pub IsFit : Event → Type 0
+IsFit e = AddsSecond e × NamesIdentity e
 
 -- the header and these lines were run: what there is then, and what was put out before and after
 pub record IsSoFar (c : Choices) (h : Header) (lines : List Scripted) (k : Counting) (old new : Option (List ℕ)) : Type 0 where
   pub good : IsScriptHeader h
   pub taken : AllByRecursion IsTaken lines
   pub events : List Event
-  pub adds : AllByRecursion AddsSecond events
+  pub fit : AllByRecursion IsFit events
   pub after : k ≡ counting_from c h events
   pub transcript : IsTranscriptOf lines (entries_from c (new_world h) events)
   pub within : IsWithin k.counts

@@ -5,7 +5,6 @@ use Rattle.std.specs.Io.KnownBytes.{Appends}
 use Rattle.dc_base.specs.declared.answers.Status.{Status}
 use Rattle.dc_base.specs.declared.answers.Status.TheVariants as status
 use Rattle.dc_base.specs.declared.nodes.LinkId.{LinkId}
-use Rattle.dc_base.specs.declared.events.Header.{Header}
 use Rattle.dc_base.specs.declared.events.Event.{Event}
 use Rattle.dc_base.specs.declared.events.Event.TheVariants.{Step}
 use Rattle.dc_outside.specs.Octets.{AppendsFront}
@@ -15,34 +14,15 @@ use Rattle.script_text.specs.declared.scripted.Scripted.{Scripted}
 use Rattle.script_text.specs.declared.scripted.Scripted.TheVariants.{One, Drain}
 use Rattle.node_rules.specs.Choices.{Choices}
 use Rattle.node_rules.specs.Run.{entries_from, world_step}
-use Rattle.node_rules.specs.World.{World, first_loaded, new_world}
-use Rattle.dc_network.specs.Counting.{Counted, IsWithin, counted, counts_of_both}
+use Rattle.node_rules.specs.World.{World, first_loaded}
+use Rattle.dc_network.specs.Counting.{IsWithin}
+use Rattle.counted_network.specs.Counted.{Counting, counting_after_all}
 
 -- a text was not written whole, by the status: none of it, or a front where the sink failed
 abbrev pub IsUnwritten : Status → List ℕ → Option (List ℕ) → Option (List ℕ) → Type 0
 IsUnwritten status.Memory text old new = Appends old new []
 IsUnwritten status.WriteFault text old new = AppendsFront old new text
 IsUnwritten _ text old new = ⊥
-
--- the nodes and the links between them, and what all lines since the start count
-pub record Counting : Type 0 where
-  pub world : World
-  pub counts : Counted
-
--- at the start
-abbrev pub start : Header → Counting
-start h = record { world = new_world h; counts = counted [] }
-
--- after one more event
-abbrev pub counting_after : Choices → Counting → Event → Counting
-counting_after c k e =
-    let next = world_step c k.world e in
-    record { world = next.0; counts = counts_of_both k.counts (counted (entry_lines next.1)) }
-
--- after events
-abbrev pub counting_after_all : Choices → Counting → List Event → Counting
-counting_after_all c k [] = k
-counting_after_all c k (e ∷ es) = counting_after_all c (counting_after c k e) es
 
 -- the text of the entries that events make
 abbrev pub events_text : Choices → World → List Event → List ℕ

@@ -2,7 +2,6 @@
 #![tactic(auto)]
 
 mod command;
-mod counted_network;
 mod faults;
 mod policies;
 mod reading;
@@ -13,6 +12,3 @@ mod writing;
 pub use command::run_command;
 pub use faults::write_fault;
 pub use policies::{even, second, shipped};
-
-#[cfg(test)]
-mod tests;

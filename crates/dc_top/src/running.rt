@@ -10,10 +10,10 @@ ghost use Rattle.dc_text.specs.Lines.{input};
 ghost use Rattle.dc_top.specs.Ended.{HasEnded};
 ghost use Rattle.dc_top.specs.SoFar.{IsAfterLines};
 
-use crate::counted_network::CountedNetwork;
 use crate::reading::{take_header, take_line};
 use crate::stepping::run_line;
 use crate::writing::write_first;
+use counted_network::CountedNetwork;
 use dc_base::{Header, Octets, Status};
 use dc_outside::{Sink, Source};
 use dc_text::LineReader;

@@ -8,10 +8,11 @@ ghost use Rattle.split_leg.specs.Stored.{margins};
 ghost use Rattle.node_rules.specs.Choices.{by_policies};
 ghost use Rattle.node_rules.specs.World.{first_loaded};
 ghost use Rattle.dc_network.specs.Counting.{IsWithin};
-ghost use Rattle.dc_top.specs.Steps.{AreEventsOf, AreFirstSteps, HasRun, HasStopped, HasStoppedDraining, HasStoppedIn, counting_after, events_text};
+ghost use Rattle.counted_network.specs.Counted.{counting_after};
+ghost use Rattle.dc_top.specs.Steps.{AreEventsOf, AreFirstSteps, HasRun, HasStopped, HasStoppedDraining, HasStoppedIn, events_text};
 
-use crate::counted_network::CountedNetwork;
 use crate::writing::{add_event, add_happened, write_text};
+use counted_network::CountedNetwork;
 use dc_base::{Event, Memory, Octets, Status};
 use dc_outside::Sink;
 use script_text::Scripted;

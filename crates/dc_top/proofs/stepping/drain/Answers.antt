@@ -3,8 +3,10 @@ use Rattle.dc_base.specs.declared.events.Event.TheVariants.{Step}
 use Rattle.node_rules.specs.Choices.{Choices, by_policies}
 use Rattle.node_rules.specs.World.{first_loaded}
 use Rattle.split_leg.specs.Stored.{margins}
-use Rattle.dc_top.specs.Steps.{Counting, HasStoppedDraining}
-use Rattle.dc_top.proofs.Worlds.{first_step, one_event_more, run_more, stopped_after}
+use Rattle.counted_network.specs.Counted.{Counting}
+use Rattle.dc_top.specs.Steps.{HasStoppedDraining}
+use Rattle.counted_network.proofs.Events.{one_event_more}
+use Rattle.dc_top.proofs.Worlds.{first_step, run_more, stopped_after}
 use Rattle.dc_top.proofs.stepping.drain.Goals as goal
 
 pub returns-in_err-run_event-clause-stopped : goal.returns-in_err-run_event-clause-stopped

@@ -6,7 +6,7 @@ ghost use Rattle.node_rules.specs.Choices.{by_policies};
 ghost use Rattle.node_rules.specs.Run.{world_step};
 ghost use Rattle.node_rules.specs.World.{first_loaded};
 ghost use Rattle.dc_network.specs.Counting.{IsWithin};
-ghost use Rattle.dc_top.specs.Steps.{counting_after, start};
+ghost use Rattle.counted_network.specs.Counted.{counting_after, start};
 
 use dc_base::{Event, Header, LinkId, Memory};
 use dc_network::{Counts, Happened, Network};
@@ -35,7 +35,7 @@ impl Model for CountedNetwork {
     ghost use Rattle.std.specs.Prelude.{◌≡◌, List};
     ghost use Rattle.dc_base.specs.declared.events.Line.{Line};
     ghost use Rattle.dc_network.specs.Counting.{counted};
-    ghost use Rattle.dc_top.specs.Steps.{Counting};
+    ghost use Rattle.counted_network.specs.Counted.{Counting};
 
     ghost Value = { Counting };
 
@@ -55,6 +55,13 @@ impl CountedNetwork {
             network: Network::new(alloc, header)?,
             counts: Counts::none(),
         })
+    }
+
+    /// The nodes and the links between them.
+    pub fn network(&self) -> &Network
+        ensures { result.now ≡ self.now.world }
+    {
+        &self.network
     }
 
     /// One event, which is counted with its lines.

@@ -9,7 +9,7 @@ use Rattle.node_rules.specs.Run.{world_step}
 use Rattle.node_rules.specs.World.{World}
 use Rattle.dc_network.specs.Counting.{Counted, counted, counts_of_both}
 use Rattle.dc_network.proofs.Counted.{counted-append}
-use Rattle.dc_top.specs.Steps.{Counting, counting_after}
+use Rattle.counted_network.specs.Counted.{Counting, counting_after}
 
 abbrev pub with_counts : World → Counted → Counting
 with_counts w n = record { world = w; counts = n }

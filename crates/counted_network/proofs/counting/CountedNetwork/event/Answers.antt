@@ -4,9 +4,9 @@ use Rattle.node_rules.specs.Run.{world_step}
 use Rattle.split_leg.specs.Stored.{margins}
 use Rattle.transcript.specs.Transcript.{Entry, entry_lines}
 use Rattle.dc_network.specs.Counting.{counted}
-use Rattle.dc_top.specs.Steps.{counting_after}
-use Rattle.dc_top.proofs.Happening.{counted_next, entry_of, happened, with_counts}
-use Rattle.dc_top.proofs.counted_network.CountedNetwork.event.Goals as goal
+use Rattle.counted_network.specs.Counted.{counting_after}
+use Rattle.counted_network.proofs.Happening.{counted_next, entry_of, happened, with_counts}
+use Rattle.counted_network.proofs.counting.CountedNetwork.event.Goals as goal
 
 pub invariant_of-self-2 : goal.invariant_of-self-2
 invariant_of-self-2 g c =
