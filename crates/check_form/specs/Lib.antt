@@ -1,0 +1,3 @@
+-- the definitions that contracts cite
+pub mod Verdicts
+pub mod Written

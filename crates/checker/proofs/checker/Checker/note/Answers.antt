@@ -1,0 +1,7 @@
+use Rattle.std.proofs.Common.{sym, subst}
+use Rattle.checker.specs.Parts.{ArePartsOf, Parts}
+use Rattle.checker.proofs.Deciding.{noted_if}
+use Rattle.checker.proofs.checker.Checker.note.Goals as goal
+
+pub returns : goal.returns
+returns c = λ p are. noted_if c.put.result _ _ p c.args.line.now (subst (λ (s : Parts). ArePartsOf s p) (sym c.self.view_is) are) c.put.ensures

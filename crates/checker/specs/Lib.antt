@@ -1,0 +1,4 @@
+-- the definitions that contracts cite
+pub mod Decided
+pub mod Parts
+pub mod Says

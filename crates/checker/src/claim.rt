@@ -1,0 +1,21 @@
+//! The claims that are decided.
+
+/// A claim that is decided, in the order in which they are tried.
+#[derive(Clone, Copy, Debug, PartialEq, Eq)]
+pub enum Claim {
+    /// A consequence is a note or a send: one event has one answer.
+    Consequence,
+    /// A send is on one of the 22 links, of the class of its flight, between the ends that a record has; a data PDU on the air
+    /// has a COUNT beside it, and a control PDU none.
+    OnLink,
+    /// The answer to a loss or a copy is the one that is due.
+    LossCause,
+}
+
+/// A claim that does not hold of an entry.
+#[derive(Clone, Copy, Debug, PartialEq, Eq)]
+pub struct Broken {
+    pub claim: Claim,
+    /// The line after the answer that breaks it, from 0; none where the entry as a whole does.
+    pub line: Option<usize>,
+}

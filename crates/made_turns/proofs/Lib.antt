@@ -1,0 +1,3 @@
+pub mod TurnKinds
+pub mod Loaded
+pub mod Own

@@ -1,0 +1,1 @@
+-- The contracts of this crate cite what made_scripts defines.

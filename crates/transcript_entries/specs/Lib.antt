@@ -1,0 +1,4 @@
+-- the definitions that contracts cite
+pub mod Lines
+pub mod Places
+pub mod Read
