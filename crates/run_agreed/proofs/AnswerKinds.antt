@@ -11,7 +11,8 @@ use Rattle.node_rules.specs.declared.commands.Command.TheVariants.{Asked as aske
 use Rattle.node_rules.specs.declared.commands.First.{First}
 use Rattle.node_rules.specs.declared.commands.First.TheVariants.{Addition as addition, Modification as modification, Release as release}
 use Rattle.run_control.specs.Claims.{is_agreement, is_rejection}
-use Rattle.run_agreed.specs.Expected.{IsAskedFor, IsAwaited}
+use Rattle.run_control.specs.Wants.{IsAskedFor}
+use Rattle.run_agreed.specs.Expected.{IsAwaited}
 use Rattle.run_agreed.specs.Lines.{is_spoken}
 use Rattle.run_agreed.specs.Segments.{is_ack, is_rej}
 

@@ -23,7 +23,8 @@ use Rattle.run_control.specs.Links.{records_on}
 use Rattle.run_control.specs.Sound.{AreSound}
 use Rattle.run_control.proofs.TalkRuns.{event_kept, new_kept}
 use Rattle.run_control.proofs.TalkSteps.{IsKept}
-use Rattle.run_agreed.specs.Expected.{AgreesAlways, AwaitedAlone, IsAskedFor, IsAwaited}
+use Rattle.run_control.specs.Wants.{IsAskedFor}
+use Rattle.run_agreed.specs.Expected.{AgreesAlways, AwaitedAlone, IsAwaited}
 use Rattle.run_agreed.specs.Lines.{Pair, PairStep, is_spoken, master_ignores, master_moves, master_takes, pair_at, rests, said_to, second_ignores, second_moves, second_takes, spoken}
 use Rattle.run_agreed.specs.Segments.{OfChain, Origin, Segment, agrees, aside, begun, by_itself, by_record, completes, ends, lets_off, moves_on, needless, recovered, recovers, refuses, rejects, second_recovers, terminal_recovers, waits}
 use Rattle.run_agreed.proofs.Chained.{same_node, take_chain}

@@ -9,7 +9,8 @@ use Rattle.dc_base.specs.declared.records.Rec.TheVariants as rec
 use Rattle.node_rules.specs.SecondState.{request}
 use Rattle.node_rules.specs.declared.commands.Command.{Command}
 use Rattle.node_rules.specs.declared.commands.First.TheVariants.{Addition as addition, Modification as modification, Release as release}
-use Rattle.run_agreed.specs.Expected.{IsAskedFor, IsAwaited}
+use Rattle.run_control.specs.Wants.{IsAskedFor}
+use Rattle.run_agreed.specs.Expected.{IsAwaited}
 use Rattle.run_agreed.proofs.SecondSays.{MaySay}
 
 -- ---- what a secondary node answers

@@ -37,7 +37,8 @@ use Rattle.run_control.specs.Rows.{IsTaken, Reads}
 use Rattle.run_control.specs.SecondControl.{Views, fits, fits_plan, fits_recovery, holds_like, misses}
 use Rattle.run_control.specs.Views.{second_view}
 use Rattle.run_control.proofs.Reading.{any_taken}
-use Rattle.run_agreed.specs.Expected.{AwaitedAlone, BearersFitThere, IsAskedFor, IsAwaited, IsElsewhere, IsUnderWay, IsRecovery, ItemFitsThere, UnderWay, PlanFitsThere, RecoveryFitsThere}
+use Rattle.run_control.specs.Wants.{IsAskedFor}
+use Rattle.run_agreed.specs.Expected.{AwaitedAlone, BearersFitThere, IsAwaited, IsElsewhere, IsUnderWay, IsRecovery, ItemFitsThere, UnderWay, PlanFitsThere, RecoveryFitsThere}
 
 -- ---- at a secondary node
 

@@ -25,7 +25,8 @@ use Rattle.run_control.specs.Telling.{Due, due_by, nothing_due, plan_unless, rec
 use Rattle.run_control.proofs.BookRuns.{talks_always}
 use Rattle.run_control.proofs.Runs.{always_sound}
 use Rattle.run_agreed.specs.Expected.{AgreesAlways}
-use Rattle.run_agreed.specs.Stalls.{IsForSecond, IsNotOver, IsSettled, RecoveryStands, WantStands, WantsStand, is_answered, is_answer_to, is_open, is_recov, is_recovd, is_request_for, is_sent, is_waiting}
+use Rattle.run_control.specs.Wants.{is_answer_to, is_request_for}
+use Rattle.run_agreed.specs.Stalls.{IsForSecond, IsNotOver, IsSettled, RecoveryStands, WantStands, WantsStand, is_answered, is_open, is_recov, is_recovd, is_sent, is_waiting}
 use Rattle.run_agreed.proofs.SettledRuns.{settled_always}
 
 -- ---- the terminal

@@ -19,13 +19,13 @@ use Rattle.node_rules.specs.SecondStep.{plan_in, recovery_in}
 use Rattle.node_rules.specs.World.{World, new_world}
 use Rattle.node_rules.specs.declared.commands.Command.{Command}
 use Rattle.node_rules.specs.declared.commands.Command.TheVariants.{Asked as asked, Gone as gone, Recovering as recovering}
-use Rattle.node_rules.specs.declared.commands.First.{First}
 use Rattle.node_rules.specs.declared.commands.First.TheVariants.{Addition as addition, Modification as modification, Release as release}
 use Rattle.run_control.specs.Claims.{Agrees, FirstIs, second_at}
 use Rattle.run_control.specs.Links.{records_on}
 use Rattle.run_control.specs.SecondControl.{Views, holds_like, holds_there}
 use Rattle.run_control.specs.Sound.{AreSound}
 use Rattle.run_control.specs.Views.{second_view}
+use Rattle.run_control.specs.Wants.{IsAskedFor}
 
 -- ---- agreement in each state of each run
 
@@ -57,13 +57,6 @@ pub record BearersFitThere (w : World) (x : Node) : Type 0 where
   pub recovery : FirstIs (λ r. RecoveryFitsThere (second_view (second_at x w)) (recovery_in r)) (records_on M x w)
 
 -- ---- the link to the master
-
--- the open command asks this node by such a first record, in this generation
-abbrev pub IsAskedFor : First → Node → ℕ → Option Command → Type 0
-IsAskedFor f x g None = ⊥
-IsAskedFor f x g (Some (asked c first who wanted)) = (first ≡ f) × (who ≡ x) × (c.plan.g ≡ g)
-IsAskedFor f x g (Some (gone plan going)) = ⊥
-IsAskedFor f x g (Some (recovering id terminal second)) = ⊥
 
 -- the open command is the recovery of this bearer, and waits for this node
 abbrev pub IsRecovery : Node → ℕ → Option Command → Type 0

@@ -17,6 +17,7 @@ use Rattle.node_rules.specs.declared.commands.Command.{Command}
 use Rattle.node_rules.specs.declared.commands.Command.TheVariants.{Asked as asked, Gone as gone, Recovering as recovering}
 use Rattle.run_control.specs.Claims.{second_at}
 use Rattle.run_control.specs.Links.{records_on}
+use Rattle.run_control.specs.Wants.{is_answer_to, is_request_for}
 
 -- ---- the master's own state
 
@@ -50,22 +51,6 @@ RecoveryStands w x = (id : ℕ) (terminal : Bool) → w.master.proc.command ≡ 
     → (list_any (is_recov id) (records_on M x w) ≡ true) ⊎ (list_any (is_recovd id) (records_on x M w) ≡ true)
 
 -- ---- wants
-
--- the record asks for this
-abbrev pub is_request_for : Want → Rec → Bool
-is_request_for want.Rekey rec.Modrqd = true
-is_request_for want.Change rec.Chgrqd = true
-is_request_for want.Release rec.Relrqd = true
-is_request_for w _ = false
-
--- the record answers it
-abbrev pub is_answer_to : Want → Rec → Bool
-is_answer_to want.Rekey (rec.Modcnf g) = true
-is_answer_to want.Rekey (rec.Modref word) = true
-is_answer_to want.Change (rec.Chgcnf plan) = true
-is_answer_to want.Change (rec.Chgref word) = true
-is_answer_to want.Release (rec.Relcnf plan) = true
-is_answer_to w _ = false
 
 -- a command is open that was begun for a secondary node
 abbrev pub IsForSecond : Option Command → Type 0

@@ -3,7 +3,7 @@ use Rattle.std.specs.Prelude.{List, ℕ}
 use Rattle.dc_base.specs.declared.events.Header.{Header}
 use Rattle.transcript.specs.Transcript.{Entry}
 use Rattle.claims.specs.Claim.{Claim, Each, of_entries, of_lines}
-use Rattle.claims.specs.Names.{cause, claim, consequence, keyed, on_link, planned, protected}
+use Rattle.claims.specs.Names.{cause, claim, consequence, keyed, on_link, one_use, planned, protected}
 use Rattle.claims.specs.Past.{new_past}
 use Rattle.run_words.specs.Parts.{at_events, at_lines, is_loss_or_copy}
 use Rattle.run_table.specs.Commands.{is_key_command}
@@ -12,7 +12,8 @@ use Rattle.run_agreed.specs.BearerCauses.{is_bearer_command, is_master_report, s
 use Rattle.run_seconds.specs.Answers.{is_second_event, step_has_answer}
 use Rattle.run_uplinks.specs.Answers.{terminal_is_answered, uplink_rises, uplinks_are_near}
 use Rattle.run_senders.specs.Fitting.{is_record_or_ack}
-use Rattle.run_senders.specs.Lines.{is_from_terminal, is_on_its_link}
+use Rattle.run_senders.specs.Lines.{is_on_its_link}
+use Rattle.run_relays.specs.Lines.{is_uplink_line}
 
 -- a claim holds of each entry of the transcript of a run with so many policies
 abbrev pub Keeps : Claim → Header → ℕ → List Entry → Type 0
@@ -33,9 +34,13 @@ Keeps k h policies t = Each k (new_past h policies) t
 -- a step is refused where no flight stands at its place, or the link keeps its order and the flight is not the first, and not
 -- otherwise, but for the age of the flight;
 -- the next COUNT of an uplink is at most a window past its last `freed` line, and each such line is past the one before;
--- each data PDU on a link from the terminal protects the submission of its tag, under the key of its plan (protected);
--- each record that has the terminal reconfigure carries the plan that was drawn with its generation (planned), and the octets of
--- the root that is current once it is carried out (keyed)
+-- each uplink data PDU protects the submission of its tag, under the key of its plan, whether the terminal sends it, a leg host relays it
+-- or it is the copy of such a one; and one that is relayed was taken from the air so (protected);
+-- each record that carries a plan carries the one that was drawn with its generation, or the empty plan of generation 0 (planned);
+-- each that carries a key carries the octets of the one that its plan names: one that has the terminal reconfigure those of the root,
+-- and one that asks a secondary node first those of the K_SN, that are current once the plan is carried out (keyed);
+-- each plan that is carried out brings no key that another establishment of its identity uses, and the key of each uplink data PDU, sent by
+-- the terminal, relayed or copied, is in use for its establishment and for no other (one_use, of these lines)
 pub record KeepsClaims (h : Header) (policies : ℕ) (t : List Entry) : Type 0 where
   pub consequences : Keeps (claim consequence) h policies t
   pub on_links : Keeps (of_lines (λ p x. is_on_its_link x)) h policies t
@@ -50,6 +55,8 @@ pub record KeepsClaims (h : Header) (policies : ℕ) (t : List Entry) : Type 0 w
   pub steps : Keeps (of_entries (λ p x q. step_has_answer p x)) h policies t
   pub uplink_windows : Keeps (of_entries (λ p x q. uplinks_are_near q)) h policies t
   pub uplink_freed : Keeps (of_lines uplink_rises) h policies t
-  pub uplink_protected : Keeps (at_lines is_from_terminal (claim protected)) h policies t
-  pub plans : Keeps (at_lines is_order_line (claim planned)) h policies t
-  pub keys : Keeps (at_lines is_order_line (claim keyed)) h policies t
+  pub uplink_protected : Keeps (at_lines is_uplink_line (claim protected)) h policies t
+  pub plans : Keeps (claim planned) h policies t
+  pub keys : Keeps (claim keyed) h policies t
+  pub order_uses : Keeps (at_lines is_order_line (claim one_use)) h policies t
+  pub uplink_uses : Keeps (at_lines is_uplink_line (claim one_use)) h policies t

@@ -11,4 +11,5 @@ pub mod Links
 pub mod Sound
 pub mod Telling
 pub mod Claims
+pub mod Wants
 pub mod Books

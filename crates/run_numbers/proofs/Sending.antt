@@ -1,62 +1,91 @@
--- Each step by which a bearer at the terminal sends counts on its legs: a submission, a recovery, a status report, a new generation.
-use Rattle.std.proofs.Common.{ℕ, List, [], ◌∷◌, None, refl}
-use Rattle.std.specs.Prelude.{Err, Ok, Result, filter_map}
-use Rattle.dc_base.specs.declared.nodes.Node.TheVariants.{A, B, M}
-use Rattle.pdcp_pdu.specs.StatusReport.{report_pdu}
-use Rattle.pdcp_rx.specs.Entries.{counts_of}
-use Rattle.pdcp_tx.specs.Sender.{Sender}
-use Rattle.pdcp_tx.specs.Sending.{take_sdu}
-use Rattle.pdcp_tx.specs.declared.tx.TxErr.{TxErr}
-use Rattle.pdcp_tx.specs.declared.tx.TxErr.TheVariants as unable
-use Rattle.node_rules.specs.Choices.{Choices}
-use Rattle.node_rules.specs.Entity.{Entity, renewed}
-use Rattle.node_rules.specs.Sending.{Pdu, pdu_at, send_counts, send_kept, send_report}
+-- Each step of a bearer at the terminal that sends goes on where its legs were, and each other leaves its legs.
+use Rattle.std.proofs.Common.{ℕ, ◌≡◌, Bool, true, false, List, [], refl, sym, ap, subst, ◌∙◌}
+use Rattle.std.specs.Prelude.{filter, if◌then◌else◌, map}
+use Rattle.std.proofs.lemmas.Simd.{map-map}
+use Rattle.dc_base.specs.Links.{is_same_link, link}
+use Rattle.dc_base.specs.declared.nodes.Class.TheVariants.{Air}
+use Rattle.dc_base.specs.declared.nodes.LinkId.{LinkId}
+use Rattle.dc_base.specs.declared.nodes.Node.{Node}
+use Rattle.dc_base.specs.declared.nodes.Node.TheVariants.{A, B, M, T}
+use Rattle.nr_u.specs.declared.tunnel.outbound.Sent.{Sent}
+use Rattle.pdcp_pdu.specs.Bitmap.{names}
+use Rattle.pdcp_pdu.specs.Pdu.{Content, report, sdu}
+use Rattle.pdcp_tx.specs.Sender.{counts}
+use Rattle.split_leg.specs.Legs.{LegState, LegsState}
+use Rattle.node_rules.specs.Choices.{Send}
+use Rattle.node_rules.specs.Entity.{Entity, take_pdu}
+use Rattle.node_rules.specs.Places.{is_at}
 use Rattle.node_rules.specs.Setup.{Setup}
-use Rattle.node_rules.specs.TerminalHalf.{TerminalHalf, submit_as, terminal_recover, terminal_renew, terminal_report, terminal_submit, with_sends}
-use Rattle.node_rules.specs.declared.bearers.OnLeg.{OnLeg}
-use Rattle.run_control.specs.Sound.{IsSecond}
-use Rattle.run_legs.specs.Entities.{HasSent}
-use Rattle.run_legs.proofs.Entities.{counts_sent, has_sent, kept_sent}
-use Rattle.run_numbers.specs.Counts.{HalfCounts, leg_count}
-use Rattle.run_numbers.proofs.Halves.{counts_none, others_none, to_a, to_b, to_master}
+use Rattle.run_confirms.specs.Anchors.{as_sent, sent_on}
+use Rattle.run_confirms.proofs.Confirming.{SameSends, all_settled_same}
+use Rattle.run_numbers.specs.Histories.{Continues, NoneOf}
+use Rattle.run_numbers.specs.Records.{HalfSends, air_sent, air_sents, leg_on, leg_sents}
+use Rattle.run_numbers.proofs.Puts.{continues_none}
 
--- an entity sent
-pub entity_counts : (pdus : List Pdu) (e : Entity) (done : Entity × List OnLeg) → HasSent pdus e done → IsSecond e.setup.sec → HalfCounts e.setup done.0.setup (with_sends done).1
-entity_counts pdus e done sent sound = record {
-  to_master = to_master pdus e done sent sound;
-  to_a = to_a pdus e done sent sound;
-  to_b = to_b pdus e done sent sound;
-  others = λ l id g apart. others_none done.0.setup l id g apart done.1;
-}
+-- ---- legs that stay
 
--- nothing is sent
-pub nothing_counts : (s : Setup) → HalfCounts s s []
-nothing_counts s = record {
-  to_master = counts_none _ s.id s.g (leg_count M s) [] refl;
-  to_a = counts_none _ s.id s.g (leg_count A s) [] refl;
-  to_b = counts_none _ s.id s.g (leg_count B s) [] refl;
-  others = λ l id g apart. refl;
-}
+-- as a PDU is sent over the air: without a mark
+abbrev bare : Sent → Sent
+bare s = record { count = s.count; repeat = false }
 
-by_submission : (c : Choices) (h : TerminalHalf) (r : Result (Sender × ℕ) TxErr) → IsSecond h.setup.sec → HalfCounts h.setup (submit_as c h r).0.setup (submit_as c h r).2
-by_submission c h (Ok (tx, count)) sound = let e = record h { tx = tx } in entity_counts (filter_map (pdu_at e) (count ∷ [])) e (send_counts c e (count ∷ [])) (counts_sent c e (count ∷ [])) sound
-by_submission c h (Err (unable.Full lowest next)) sound = nothing_counts h.setup
-by_submission c h (Err unable.Exhausted) sound = nothing_counts h.setup
-by_submission c h (Err unable.Memory) sound = nothing_counts h.setup
+bare_sents : (leg : LegState) → air_sents leg ≡ map bare (sent_on leg)
+bare_sents leg = sym (map-map bare as_sent leg.pdus)
 
--- a submission
-pub submission_counts : (c : Choices) (h : TerminalHalf) (sdu : List ℕ) → IsSecond h.setup.sec → HalfCounts h.setup (terminal_submit c h sdu).0.setup (terminal_submit c h sdu).2
-submission_counts c h sdu sound = by_submission c h (take_sdu h.tx sdu) sound
+pub same_sents : (a b : LegState) → sent_on b ≡ sent_on a → air_sents b ≡ air_sents a
+same_sents a b same = bare_sents b ∙ ap (map bare) same ∙ sym (bare_sents a)
 
--- a recovery
-pub recovery_counts : (c : Choices) (h : TerminalHalf) → IsSecond h.setup.sec → HalfCounts h.setup (terminal_recover c h).0.setup (terminal_recover c h).1
-recovery_counts c h sound = entity_counts _ h (send_kept c h) (kept_sent c h) sound
+module _ (s : Setup) (legs : LegsState) (same : SameSends s.legs legs) where
+  -- the setup with these legs
+  abbrev with_them : Setup
+  with_them = record s { legs = legs }
 
--- a status report
-pub report_counts : (c : Choices) (h : TerminalHalf) → IsSecond h.setup.sec → HalfCounts h.setup (terminal_report c h).0.setup (terminal_report c h).1
-report_counts c h sound =
-    let pdus : List Pdu = (None, report_pdu h.rx.deliv (counts_of h.rx.stored)) ∷ [] in entity_counts pdus h (send_report c h) (has_sent c h pdus) sound
+  same_to : (x : Node) → leg_sents x with_them ≡ leg_sents x s
+  same_to T = refl
+  same_to M = same_sents s.legs.mcg legs.mcg same.mcg
+  same_to A = ap (λ zs. if is_at A s.sec then zs else []) (same_sents s.legs.scg legs.scg same.scg)
+  same_to B = ap (λ zs. if is_at B s.sec then zs else []) (same_sents s.legs.scg legs.scg same.scg)
 
--- a new generation: its legs count from what is set up, that is from 0
-pub renewal_counts : (c : Choices) (h : TerminalHalf) (s : Setup) → IsSecond s.sec → HalfCounts s (terminal_renew c h s).0.setup (terminal_renew c h s).1
-renewal_counts c h s sound = entity_counts _ (renewed h s) (send_kept c (renewed h s)) (kept_sent c (renewed h s)) sound
+  -- on each link there is what was there
+  pub same_on : (l : LinkId) → leg_on l with_them ≡ leg_on l s
+  same_on l = ap (λ zs. if is_same_link l (link T l.to Air) then zs else []) (same_to l.to)
+
+  -- and where nothing is sent it goes on
+  pub legs_stay : (sends : List Send) → ((id g : ℕ) → NoneOf id g sends) → HalfSends s with_them sends
+  legs_stay sends none = record {
+    own = λ l. subst (λ zs. Continues l s.id s.g (leg_on l s) zs sends) (sym (same_on l)) (continues_none l s.id s.g (leg_on l s) sends (none s.id s.g l));
+    others = λ l id g apart. none id g l;
+  }
+
+-- nothing is sent, and nothing changes
+pub nothing_sends : (s : Setup) → HalfSends s s []
+nothing_sends s = record { own = λ l. continues_none l s.id s.g (leg_on l s) [] refl; others = λ l id g apart. refl }
+
+-- a PDU that is taken leaves what was put on the legs
+pub taken_same : (e : Entity) (x : Content) → SameSends e.setup.legs (take_pdu e x).0.setup.legs
+taken_same e (sdu s body) = all_settled_same e.setup.legs []
+taken_same e (report fmc bits) = all_settled_same e.setup.legs (filter (names fmc bits) (counts e.tx.kept))
+
+pub taken_setup : (e : Entity) (x : Content) → (take_pdu e x).0.setup ≡ record e.setup { legs = (take_pdu e x).0.setup.legs }
+taken_setup e (sdu s body) = refl
+taken_setup e (report fmc bits) = refl
+
+-- no PDUs
+abbrev none_sent : List Sent
+none_sent = []
+
+nothing : (b : Bool) → (if b then none_sent else none_sent) ≡ none_sent
+nothing true = refl
+nothing false = refl
+
+-- on new legs nothing was put
+pub new_on : (s : Setup) → s.legs.mcg.pdus ≡ [] → s.legs.scg.pdus ≡ [] → (l : LinkId) → leg_on l s ≡ []
+new_on s mcg scg l = ap (λ zs. if is_same_link l (link T l.to Air) then zs else []) (to l.to) ∙ nothing (is_same_link l (link T l.to Air))
+  where
+    none : air_sents s.legs.scg ≡ []
+    none = ap (map air_sent) scg
+
+    to : (x : Node) → leg_sents x s ≡ []
+    to T = refl
+    to M = ap (map air_sent) mcg
+    to A = ap (λ zs. if is_at A s.sec then zs else []) none ∙ nothing (is_at A s.sec)
+    to B = ap (λ zs. if is_at B s.sec then zs else []) none ∙ nothing (is_at B s.sec)

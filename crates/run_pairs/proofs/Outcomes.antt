@@ -25,7 +25,8 @@ use Rattle.run_control.specs.SecondControl.{bare_record}
 use Rattle.run_control.specs.Sound.{AreSound}
 use Rattle.run_control.proofs.Records.{bare_records}
 use Rattle.run_pairs.specs.Pairs.{asked_for, begun_for, is_word, waiting_of, wants_in, words}
-use Rattle.run_pairs.specs.Standing.{WantStands, is_answer_to, is_answered, is_begun, is_request_for, is_sent, is_waiting}
+use Rattle.run_control.specs.Wants.{is_answer_to, is_request_for}
+use Rattle.run_pairs.specs.Standing.{WantStands, is_answered, is_begun, is_sent, is_waiting}
 use Rattle.run_pairs.proofs.Replies.{lone}
 use Rattle.run_pairs.proofs.Runs.{ArePaired, LinePaired, paired_always}
 
