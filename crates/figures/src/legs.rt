@@ -1,5 +1,8 @@
 //! The two legs of a bearer with many PDUs outstanding.
 
+ghost use Rattle.std.specs.Prelude.{◌≡◌, ◌+◌};
+ghost use Rattle.split_leg.specs.Legs.{volume};
+
 use dc_base::{Cell, LegSet, Memory, Shape};
 use split_leg::Legs;
 use std::alloc::Global;
@@ -36,7 +39,9 @@ fn put_all(legs: &mut Legs) -> Result<(), Memory> {
 }
 
 /// The octets that are outstanding on both legs.
-fn volume(legs: &Legs) -> u64 {
+fn volume(legs: &Legs) -> u64
+    ensures { result ≡ volume legs.now.mcg.pdus + volume legs.now.scg.pdus }
+{
     legs.volume(Cell::Mcg) + legs.volume(Cell::Scg)
 }
 

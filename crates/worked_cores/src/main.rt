@@ -4,10 +4,12 @@
 //! Each table `NAME.steps` of its folder begins with the header of a script. `> NODE LINE` is a step: an input of that node,
 //! `t`, `m`, `a` or `b`. LINE is an event as a script has it, and `step LINK NUMBER` gives the node the flight of this number,
 //! from 0, of all that were put on the link so far. Up to the next step stand the lines that are wanted of it: the answer, and
-//! the notes and sends in their order. One table, `not-as-wanted`, wants too little of the master, and its last step names a
+//! the notes and sends in their order. LINE may also ask the node of a bearer: `has ID`, whether it takes a report of it, or
+//! `edges ID G`, what it has in this generation; then the reply is wanted. One table, `not-as-wanted`, wants too little of the master, and its last step names a
 //! flight that was not sent.
 #![tactic(auto)]
 
+mod asking;
 mod cores;
 mod judging;
 mod sent;

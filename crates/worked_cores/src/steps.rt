@@ -4,6 +4,7 @@ ghost use Rattle.std.specs.Prelude.{◌≡◌, ◌↔◌, ◌∷◌, IfOk, IsTru
 ghost use Rattle.dc_base.specs.declared.events.Line.TheVariants as line;
 ghost use Rattle.transcript.specs.Text.{lines_text};
 
+use crate::asking::{read_question, reply_line};
 use crate::cores::Cores;
 use crate::sent::Sent;
 use dc_base::{Answer, Event, Line, Memory, Node, Octets};
@@ -73,8 +74,27 @@ fn is_wanted(alloc: Global, answer: Answer, lines: &[Line], wanted: &str) -> Res
     Ok(text.as_slice() == wanted.as_bytes())
 }
 
-/// Gives a core the input of a step, and puts what it sends on the links. The node, and whether it did what is wanted; `None`
-/// where the text is no step.
+/// Asks a core what a step asks. The node, and whether it says what is wanted; `None` where the first line asks nothing.
+fn ask(
+    alloc: Global,
+    cores: &Cores,
+    first: &str,
+    wanted: &str,
+) -> Result<Option<(Node, bool)>, Memory> {
+    let Some((letter, line)) = first.split_once(' ') else {
+        return Ok(None);
+    };
+    match (node_of(letter), read_question(line)) {
+        (Some(node), Some(question)) => {
+            let reply = reply_line(alloc, cores.reply(node, question))?;
+            Ok(Some((node, reply.as_str() == wanted)))
+        }
+        _ => Ok(None),
+    }
+}
+
+/// Gives a core the input of a step, and puts what it sends on the links, or asks it what the step asks. The node, and whether
+/// it did what is wanted; `None` where the text is no step.
 pub(crate) fn take_step(
     alloc: Global,
     cores: &mut Cores,
@@ -86,7 +106,7 @@ pub(crate) fn take_step(
         return Ok(None);
     };
     let Some((node, input)) = read_step(alloc, first, sent)? else {
-        return Ok(None);
+        return ask(alloc, cores, first, wanted);
     };
     let outcome = cores.step(node, input, policies)?;
     let answer = outcome.answer;
