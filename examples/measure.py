@@ -1,20 +1,21 @@
 #!/usr/bin/env python3
-"""Times `dc run` on made scripts, and prints events per second and peak memory.
+"""Times `dc run` on made scripts, and prints events per second of a processor and peak memory.
 
 Usage: measure.py PROGRAM [LOG2 ..]     PROGRAM is the built `dc`; each LOG2 (default 14 16 18 20) a number of events, 2^LOG2
 
 one-bearer     a bearer at the master: downlink payloads, each delivered and confirmed, in clear
 ciphered       the same under 128-NEA2
 tunnel         a split bearer (`mxm`): each eighth turn loses a packet of the tunnel and repeats another; delivery statuses
-               confirm and ask again, a report each turn confirms the repeats
+               confirm and ask again, a report each turn confirms the repeats. After 16 turns, which are a few hundred events,
+               the bearer gets a new generation with the other primary leg (`mxs`, `mxm`), and so a new tunnel: a delivery
+               status lists each number lost in its generation (TS 38.425, 5.4.2), and would grow with the run otherwise
 moving         32 bearers: about each hundredth event moves one, from the master to the secondary and back
 Each run has at most as many events as is said, as close as whole rounds of 64 turns allow. The transcript goes to
-/dev/null. Peak memory is what GNU time (/usr/bin/time) tells.
+/dev/null. The seconds of a processor and peak memory are what GNU time (/usr/bin/time) tells.
 """
 import subprocess
 import sys
 import tempfile
-import time
 
 ROOT = 64 * "0"
 
@@ -31,7 +32,11 @@ def tunnel(turn):
     lines = [f"dl 1 {payload(4 * turn + k)}" for k in range(4)]
     if turn % 8 == 7:
         lines += ["lose ma.tun 0", "again ma.tun 0"]
-    return lines + ["drain", "report t 1", "drain"]
+    lines += ["drain", "report t 1", "drain"]
+    if turn % 16 == 15:
+        shape = "mxs" if turn // 16 % 2 == 0 else "mxm"
+        lines += [f"shape 1 {shape}", "drain"]
+    return lines
 
 
 def moving(turn):
@@ -76,15 +81,15 @@ def turns_for(program, kind, events):
 
 
 def timed(program, text):
-    """Seconds, peak memory in KiB and exit status of a run. GNU time, which is small, starts it: a program that is started from
-    here would have the memory of this one as its peak."""
-    with tempfile.TemporaryFile() as source, tempfile.NamedTemporaryFile() as peak:
+    """Seconds of a processor, peak memory in KiB and exit status of a run. GNU time, which is small, starts it: a program that is
+    started from here would have the memory of this one as its peak."""
+    with tempfile.TemporaryFile() as source, tempfile.NamedTemporaryFile() as told:
         source.write(text.encode())
         source.seek(0)
-        command = ["/usr/bin/time", "-q", "-f", "%M", "-o", peak.name, program, "run"]
-        begin = time.monotonic()
+        command = ["/usr/bin/time", "-q", "-f", "%U %S %M", "-o", told.name, program, "run"]
         run = subprocess.run(command, stdin=source, stdout=subprocess.DEVNULL)
-        return time.monotonic() - begin, int(peak.read()), run.returncode
+        user, system, peak = told.read().decode().split()
+        return float(user) + float(system), int(peak), run.returncode
 
 
 def main():
@@ -98,7 +103,7 @@ def main():
             text = script(kind, turns_for(program, kind, 2**log))
             refused, events = refused_and_events(program, text)
             seconds, peak, status = timed(program, text)
-            print(f"{kind:10} {events:7} {seconds:8.3f} {events / seconds:9.0f} {peak:9} {refused:8} {status:7}", flush=True)
+            print(f"{kind:10} {events:7} {seconds:8.2f} {events / seconds:9.0f} {peak:9} {refused:8} {status:7}", flush=True)
     return 0
 
 
