@@ -22,6 +22,9 @@ use Rattle.run_plans.proofs.Runs.{records_planned}
 use Rattle.run_keys.proofs.Keys.{records_keyed}
 use Rattle.run_keys.proofs.Unused.{orders_unused}
 use Rattle.run_keys.proofs.Relayed.{uplink_uses_once}
+use Rattle.run_placed.proofs.Placed.{terminal_notes_placed}
+use Rattle.run_placed.proofs.Seconds.{second_notes_placed}
+use Rattle.run_holders.proofs.Always.{gives_by_holder, hands_by_holder}
 use Rattle.run_claims.specs.KeepsClaims.{KeepsClaims}
 
 -- the transcript of fewer than 2^23 events by the rules, if each addition is of a secondary node and each bearer has an identity of 1 to
@@ -49,4 +52,8 @@ run_keeps_claims c h es adds names few =
       keys = records_keyed c h policies es adds;
       order_uses = orders_unused c h policies es adds;
       uplink_uses = uplink_uses_once c h policies es adds names few;
+      terminal_notes = terminal_notes_placed c h policies es adds;
+      second_notes = second_notes_placed c h policies es;
+      gives = gives_by_holder c h policies es adds;
+      hand_ups = hands_by_holder c h policies es adds;
     }

@@ -3,7 +3,7 @@ use Rattle.std.specs.Prelude.{List, ℕ}
 use Rattle.dc_base.specs.declared.events.Header.{Header}
 use Rattle.transcript.specs.Transcript.{Entry}
 use Rattle.claims.specs.Claim.{Claim, Each, of_entries, of_lines}
-use Rattle.claims.specs.Names.{cause, claim, consequence, keyed, on_link, one_use, planned, protected}
+use Rattle.claims.specs.Names.{cause, claim, consequence, holder, keyed, on_link, one_use, placed, planned, protected}
 use Rattle.claims.specs.Past.{new_past}
 use Rattle.run_words.specs.Parts.{at_events, at_lines, is_loss_or_copy}
 use Rattle.run_table.specs.Commands.{is_key_command}
@@ -14,6 +14,8 @@ use Rattle.run_uplinks.specs.Answers.{terminal_is_answered, uplink_rises, uplink
 use Rattle.run_senders.specs.Fitting.{is_record_or_ack}
 use Rattle.run_senders.specs.Lines.{is_on_its_link}
 use Rattle.run_relays.specs.Lines.{is_uplink_line}
+use Rattle.run_placed.specs.Lines.{is_second_note_line, is_terminal_note_line}
+use Rattle.run_holders.specs.Lines.{is_give_line, is_handing_line}
 
 -- a claim holds of each entry of the transcript of a run with so many policies
 abbrev pub Keeps : Claim → Header → ℕ → List Entry → Type 0
@@ -40,7 +42,14 @@ Keeps k h policies t = Each k (new_past h policies) t
 -- each that carries a key carries the octets of the one that its plan names: one that has the terminal reconfigure those of the root,
 -- and one that asks a secondary node first those of the K_SN, that are current once the plan is carried out (keyed);
 -- each plan that is carried out brings no key that another establishment of its identity uses, and the key of each uplink data PDU, sent by
--- the terminal, relayed or copied, is in use for its establishment and for no other (one_use, of these lines)
+-- the terminal, relayed or copied, is in use for its establishment and for no other (one_use, of these lines);
+-- each note that the terminal has a bearer in a generation stands where it is given the plan that sets it, and first in that generation; each
+-- that it has dropped one, where it is given a plan that drops it, and has it (placed, of these notes);
+-- a secondary node joins where it was not there and is given an addition that it accepts, and leaves where it was and is given a release that
+-- it accepts or the confirmation of a change or a release; what it asked for is confirmed or refused where it waits for that and is given
+-- the record that says so (placed, of these notes);
+-- each anchor that is frozen is that of the node that holds the bearer, and so is each that hands an uplink payload up (holder, of these
+-- lines)
 pub record KeepsClaims (h : Header) (policies : ℕ) (t : List Entry) : Type 0 where
   pub consequences : Keeps (claim consequence) h policies t
   pub on_links : Keeps (of_lines (λ p x. is_on_its_link x)) h policies t
@@ -60,3 +69,7 @@ pub record KeepsClaims (h : Header) (policies : ℕ) (t : List Entry) : Type 0 w
   pub keys : Keeps (claim keyed) h policies t
   pub order_uses : Keeps (at_lines is_order_line (claim one_use)) h policies t
   pub uplink_uses : Keeps (at_lines is_uplink_line (claim one_use)) h policies t
+  pub terminal_notes : Keeps (at_lines is_terminal_note_line (claim placed)) h policies t
+  pub second_notes : Keeps (at_lines is_second_note_line (claim placed)) h policies t
+  pub gives : Keeps (at_lines is_give_line (claim holder)) h policies t
+  pub hand_ups : Keeps (at_lines is_handing_line (claim holder)) h policies t

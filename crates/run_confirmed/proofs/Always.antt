@@ -68,7 +68,7 @@ module _ (layout : Layout) (stories : Stories) (w : World) (is : IsWorldOf layou
   -- was received
   pub status_that_stands : (c : Choices) (tag : Option ℕ) (packet : List ℕ) (i g : ℕ) (status : Frame)
       → slice_get (flights_on l w.links) place ≡ Some (flight.Tun tag packet)
-      → packet_of packet ≡ delivery i g status → IsReadRight layout l (flight.Tun tag packet) → IsNotBehind a tag
+      → packet_of packet ≡ delivery i g status → IsReadRight layout stories l (flight.Tun tag packet) → IsNotBehind a tag
       → KeptOrGot stories id a (tunnel_in c a (flight.Tun tag packet)).0
   status_that_stands c tag packet i g status at said reads behind =
       delivery_confirms layout x stories is.order c id a l tag packet i g status said here (each_at (IsTrue layout stories l) (flights_on l w.links) place (flight.Tun tag packet) (is.flights l) at) reads behind

@@ -85,7 +85,7 @@ module _ (layout : Layout) (x : Node) (stories : Stories) (order : (id g : ℕ) 
   -- by a delivery status in the tunnel
   pub delivery_confirms : (c : Choices) (id : ℕ) (a : AnchorState) (l : LinkId) (tag : Option ℕ) (packet : List ℕ) (i g : ℕ) (status : Frame)
       → packet_of packet ≡ delivery i g status → IsAnchorOf layout stories x id a
-      → IsTruePacket layout stories tag packet → IsReadRight layout l (flight.Tun tag packet) → IsNotBehind a tag
+      → IsTruePacket layout stories tag packet → IsReadRight layout stories l (flight.Tun tag packet) → IsNotBehind a tag
       → KeptOrGot stories id a (tunnel_in c a (flight.Tun tag packet)).0
   delivery_confirms c id a l tag packet i g status said is truth reads behind =
       let k = (setup_at a).g in

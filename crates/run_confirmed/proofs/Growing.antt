@@ -189,6 +189,7 @@ module _ (layout : Layout) (a b : Stories) (later : (id g : ℕ) → IsLater (a 
   packet_later tag packet (inl x) = inl (record {
     id = x.id;
     g = x.g;
+    named = x.named;
     sent = record {
       number = x.sent.number;
       repeat = x.sent.repeat;
@@ -266,6 +267,7 @@ module _ (layout : Layout) (x : Node) (a b : Stories) (by : AreBy layout x a b) 
         sent = subst (λ (own : List (Option ℕ)). StateSent own (b id g).tunnel s) (sym ((by id g).own away))
             (subst (λ (tun : List Sent). StateSent (a id g).own tun s) (sym ((by id g).tunnel away)) is.sent);
         steady = is.steady;
+        named = is.named;
       }
 
   -- a leg host there

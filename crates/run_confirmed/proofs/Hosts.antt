@@ -66,7 +66,7 @@ module _ (layout : Layout) (stories : Stories) (tag : Option ℕ) where
   aside_for id g nothing aside = tt
 
   -- a packet is so of any bearer and generation
-  pub packet_true : (l : LinkId) (packet : List ℕ) (id g : ℕ) → IsTruePacket layout stories tag packet → IsReadRight layout l (flight.Tun tag packet)
+  pub packet_true : (l : LinkId) (packet : List ℕ) (id g : ℕ) → IsTruePacket layout stories tag packet → IsReadRight layout stories l (flight.Tun tag packet)
       → At (packet_of packet) id g
   packet_true l packet id g (inl x) reads =
       let i = x.id in
@@ -74,8 +74,8 @@ module _ (layout : Layout) (stories : Stories) (tag : Option ℕ) where
       let number = x.sent.number in
       let repeat = x.sent.repeat in
       let pdu = x.sent.pdu in
-      let read = reads i h number repeat pdu x.sent.is in
-      let said : packet_of packet ≡ pdu_down i h number repeat pdu = ap packet_of x.sent.is ∙ down_is_read i h number repeat pdu read.small read.named in
+      let read = reads x in
+      let said : packet_of packet ≡ pdu_down i h number repeat pdu = ap packet_of x.sent.is ∙ down_is_read i h number repeat pdu read.small (record { some = x.named.some; small = x.named.small; generation = x.named.generation; short = read.short }) in
       let fits : WasSent (fitting (stories i h).tunnel) number repeat tag = fitting_get (stories i h).tunnel number (record { count = tag; repeat = repeat }) read.small x.sent.sent in
       subst (λ (p : Packet). At p id g) (sym said) (down_for i h id g number repeat pdu (λ same_id same_g. (fits, read.shows.shows)))
   packet_true l packet id g (inr (inl x)) reads =
@@ -225,7 +225,7 @@ module _ (layout : Layout) (x : Node) (stories : Stories) (order : (id g : ℕ) 
   -- a packet comes
   pub packet_goes : (id : ℕ) (h : Host) (l : LinkId) (tag : Option ℕ) (packet : List ℕ) → IsHostOf layout stories x id h
       → IsTruePacket layout stories tag packet
-      → IsReadRight layout l (flight.Tun tag packet)
+      → IsReadRight layout stories l (flight.Tun tag packet)
       → HostGoes id h.g (host_tunnel_in h (flight.Tun tag packet))
   packet_goes id h l tag packet is truth reads =
       let g = h.g in
@@ -366,7 +366,7 @@ module _ (layout : Layout) (x : Node) (stories : Stories) (order : (id g : ℕ) 
   host_air_goes id h l (flight.Ctl r) other is from to truth = idle_goes id h is
 
   -- and through a tunnel
-  pub host_tunnel_goes : (id : ℕ) (h : Host) (l : LinkId) (f : Flight) → IsHostOf layout stories x id h → IsTrue layout stories l f → IsReadRight layout l f
+  pub host_tunnel_goes : (id : ℕ) (h : Host) (l : LinkId) (f : Flight) → IsHostOf layout stories x id h → IsTrue layout stories l f → IsReadRight layout stories l f
       → HostGoes id h.g (host_tunnel_in h f)
   host_tunnel_goes id h l (flight.Tun tag packet) is truth reads = packet_goes id h l tag packet is truth reads
   host_tunnel_goes id h l (flight.Air i g num tag pdu) is truth reads = idle_goes id h is
@@ -389,6 +389,7 @@ module _ (layout : Layout) (x : Node) (stories : Stories) (order : (id g : ℕ) 
     n = is.n;
     sent = subst (λ (t : Story). StateSent t.own t.tunnel a) (sym same) is.sent;
     steady = is.steady;
+    named = is.named;
   }
 
   host_same : (later : Stories) (k : ℕ) (h : Host) → later k h.g ≡ stories k h.g → IsHostOf layout stories x k h → IsHostOf layout later x k h

@@ -34,3 +34,23 @@ pub mod Always
 pub mod Near
 -- the ends of links over the air
 pub mod Ends
+-- what stands, stands on a link
+pub mod Linked
+-- plans that were drawn
+pub mod Laid
+pub mod Planning
+-- what the procedures of the master carry out
+pub mod Going
+pub mod Procs
+-- every run
+pub mod Runs
+-- generations that a node has not heard of yet
+pub mod Relaid
+pub mod Clipped
+pub mod Fresh
+pub mod News
+pub mod ReadRuns
+-- first COUNTs
+pub mod Low
+-- numbers in a tunnel
+pub mod Numbers

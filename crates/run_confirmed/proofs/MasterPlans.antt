@@ -87,6 +87,7 @@ module _ (layout : Layout) where
       home = laid.home ∙ sym (same_node M (anchor_at p.sec shape) here);
       n = same_n ∙ laid.same_n;
       small = subst (λ (k : ℕ). k < 2 ^ 32) (sym same_first) laid.small;
+      named = laid.named;
       legs = legs;
     }
 

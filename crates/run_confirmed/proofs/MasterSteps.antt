@@ -135,7 +135,7 @@ module _ (layout : Layout) (c : Choices) where
   one_same m (pass st) none = absurd (let bad : true ≡ false = none in cc)
 
   -- acts without a status transfer do the same
-  did_same : (m : MasterNode) (acts : List Act) → AllByRecursion (λ (a : Act). is_pass a ≡ false) acts
+  pub did_same : (m : MasterNode) (acts : List Act) → AllByRecursion (λ (a : Act). is_pass a ≡ false) acts
       → in_turn (master_did c) m acts ≡ in_turn (master_act c) m acts
   did_same m [] none = refl
   did_same m (a ∷ acts) none =
@@ -168,7 +168,7 @@ module _ (layout : Layout) (c : Choices) where
     pub from : l.class ≡ Air → is_same_node l.from T ≡ true
     pub to : l.to ≡ M
     pub true' : IsTrue layout stories l f
-    pub reads : IsReadRight layout l f
+    pub reads : IsReadRight layout stories l f
     pub adopts : (id : ℕ) → AdoptsSo layout m.proc (taken_by c l.class f) id (held id m.anchors)
     pub controls : l.class ≡ Ctl → ControlsSo layout c m l.from f
 

@@ -36,7 +36,7 @@ use Rattle.run_confirms.proofs.Hosts.{host_new}
 use Rattle.run_pairs.proofs.Replies.{same_node}
 use Rattle.run_senders.specs.Holders.{IfThere}
 use Rattle.run_confirmed.specs.Flights.{IsTrueSend}
-use Rattle.run_confirmed.specs.Nodes.{IsAnchorOf, IsHostOf, IsSecondOf, IsSteady}
+use Rattle.run_confirmed.specs.Nodes.{IsNameable, IsAnchorOf, IsHostOf, IsSecondOf, IsSteady}
 use Rattle.run_confirmed.specs.Plans.{IsLaidOut, SetsAsLaidOut}
 use Rattle.run_confirmed.specs.Stories.{IsInOrder, IsNew, Layout, ReceivedBy, Stories, fitting}
 use Rattle.run_confirmed.proofs.Asides.{freeze_true}
@@ -108,6 +108,7 @@ module _ (layout : Layout) (x : Node) (stories : Stories) (p : Plan) (new : IsNe
     pub home : layout.home id p.g ≡ x
     pub n : st.n ≡ layout.n id p.g
     pub small : st.first < 2 ^ 32
+    pub named : IsNameable id p.g
     pub legs : (st.legs.mcg.pdus ≡ []) × (st.legs.scg.pdus ≡ [])
 
   -- an anchor of it that sent nothing
@@ -125,6 +126,7 @@ module _ (layout : Layout) (x : Node) (stories : Stories) (p : Plan) (new : IsNe
         sent = subst (λ (k : ℕ). StateSent (stories id k).own (stories id k).tunnel a) (sym g_is)
             (subst (λ (o : List (Option ℕ)). StateSent o (stories id p.g).tunnel a) (sym own) (subst (λ (t : List Sent). StateSent [] t a) (sym tunnel) sent));
         steady = steady;
+        named = subst (IsNameable id) (sym g_is) set.named;
       }
 
   pub fresh_so : (id : ℕ) (st : Setup) → IsSetHere id st → IsAnchorOf layout stories x id (fresh st)
@@ -205,6 +207,7 @@ module _ (layout : Layout) (x : Node) (other : is_same_node x T ≡ false) (stor
     home = laid.home ∙ sym (same_node me (anchor_at p.sec shape) here) ∙ name;
     n = laid.same_n;
     small = laid.small;
+    named = laid.named;
     legs = (refl, refl);
   }
 

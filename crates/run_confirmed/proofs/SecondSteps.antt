@@ -302,7 +302,7 @@ module _ (layout : Layout) (x : Node) (other : is_same_node x T ≡ false) where
     pub from : l.class ≡ Air → is_same_node l.from T ≡ true
     pub to : l.to ≡ x
     pub true' : IsTrue layout stories l f
-    pub reads : IsReadRight layout l f
+    pub reads : IsReadRight layout stories l f
     pub fits : (r : Rec) → f ≡ flight.Ctl r → l.class ≡ Ctl → IsFitRecord layout (IsNew layout x stories) r
 
   control_goes : (stories : Stories) (order : InOrder stories) (c : Choices) (s : SecondNode) (f : Flight)

@@ -211,7 +211,7 @@ module _ (layout : Layout) (x : Node) (other : is_same_node x T ≡ false) where
 
   -- and through a tunnel
   pub tunnel_goes : (stories : Stories) (order : InOrder stories) (c : Choices) (s : SecondNode) (l : LinkId) (f : Flight) → IsTrue layout stories l f
-      → IsReadRight layout l f → Has stories s
+      → IsReadRight layout stories l f → Has stories s
       → SecondGoes stories (second_data s (λ a. tunnel_in c a f) (λ h. host_tunnel_in h f) (flight_named f))
   tunnel_goes stories order c s l f truth reads is =
       data_goes stories order s (λ a. tunnel_in c a f) (λ h. host_tunnel_in h f) (flight_named f) (tunnelled_is c f) (λ id y was. host_tunnel_goes layout x stories order id y l f was truth reads) is

@@ -34,7 +34,7 @@ use Rattle.run_senders.proofs.Anchors.{fail_stays, recover_stays, report_stays, 
 use Rattle.run_senders.proofs.Arrivals.{air_stays, status_stays, tunnel_stays}
 use Rattle.run_words.specs.Senders.{AreBy as AreSentBy}
 use Rattle.run_confirmed.specs.Flights.{IsTrue, IsTrueSend}
-use Rattle.run_confirmed.specs.Nodes.{IsAnchorOf, IsSteady}
+use Rattle.run_confirmed.specs.Nodes.{IsNameable, IsAnchorOf, IsSteady}
 use Rattle.run_confirmed.specs.Stories.{AreBy, IsInOrder, Layout, Stories, Story, leg_of}
 use Rattle.run_confirmed.proofs.Growing.{extends_none, story_by, story_here, with_story}
 use Rattle.run_confirmed.proofs.Steady.{air_steady, fail_steady, recover_steady, report_steady, status_steady, submit_steady, tunnel_steady, unlock_steady}
@@ -199,7 +199,7 @@ or_true true is = cc
 or_true false is = cc
 
 -- what an anchor sends is so by the story of its generation
-module _ (layout : Layout) (x : Node) (stories : Stories) (id g : ℕ) (home : layout.home id g ≡ x) (other : is_same_node x T ≡ false) where
+module _ (layout : Layout) (x : Node) (stories : Stories) (id g : ℕ) (home : layout.home id g ≡ x) (other : is_same_node x T ≡ false) (named : IsNameable id g) where
   own_leg : leg_of layout stories id g x ≡ (stories id g).own
   own_leg = ap (λ (b : Bool). if b then (stories id g).own else (stories id g).far) (ap (is_same_node x) home ∙ itself x)
 
@@ -209,7 +209,12 @@ module _ (layout : Layout) (x : Node) (stories : Stories) (id g : ℕ) (home : l
       ap (λ (y : Node). slice_get (leg_of layout stories i h y) num) from ∙ ap (λ (k : ℕ). slice_get (leg_of layout stories k h x) num) is.0
       ∙ ap (λ (k : ℕ). slice_get (leg_of layout stories id k x) num) is.1 ∙ ap (λ (leg : List (Option ℕ)). slice_get leg num) own_leg ∙ is.2
   one_true l (flight.Ack i h num) from plain is = λ up. absurd (let bad : true ≡ false = sym up ∙ ap (λ y. is_same_node y T) from ∙ other in cc)
-  one_true l (flight.Tun tag packet) from plain is = inl (record { id = id; g = g; sent = is })
+  one_true l (flight.Tun tag packet) from plain is = inl (record {
+    id = id;
+    g = g;
+    sent = is;
+    named = record { some = named.some; small = named.small; generation = omega (arith, named.generation); short = omega arith };
+  })
   one_true l (flight.Ctl r) from plain is = absurd (or_true (is_control l.class) plain)
   one_true l (flight.Sdu i h payload) from plain is = tt
   one_true l (flight.End i h) from plain is = tt
@@ -266,8 +271,9 @@ module _ (layout : Layout) (x : Node) (stories : Stories) (order : (id g : ℕ) 
           sent =
               subst (λ (k : ℕ). StateSent (later id k).own (later id k).tunnel done.0) (sym g_is) (subst (λ (t : Story). StateSent t.own t.tunnel done.0) (sym here) sends.after);
           steady = step.steady;
+          named = subst (IsNameable id) (sym (ap (λ (b : Bearer). b.g) step.bearer)) is.named;
         },
-        all_true layout x later id g home other done.1.sends (subst (λ (y : Node). AreSentBy y done.1.sends) is.node step.stays.by) (none_of_control done.1.sends step.plain)
+        all_true layout x later id g home other (subst (IsNameable id) same is.named) done.1.sends (subst (λ (y : Node). AreSentBy y done.1.sends) is.node step.stays.by) (none_of_control done.1.sends step.plain)
             (subst (λ (t : Story). AllByRecursion (λ (e : Send). IsOfAnchor id g t.own t.tunnel e.1) done.1.sends) (sym here)
             (subst (λ (i : ℕ). AllByRecursion (λ (e : Send). IsOfAnchor i g (s.own) (s.tunnel) e.1) done.1.sends) own_id
             (subst (λ (k : ℕ). AllByRecursion (λ (e : Send). IsOfAnchor (setup_at a).id k (s.own) (s.tunnel) e.1) done.1.sends) same sends.flights))),

@@ -264,7 +264,7 @@ module _ (layout : Layout) where
   idle_half stories order t id h here is = sent_goes stories order t id h h [] (refl, refl, refl) refl here tt is
 
   half_goes : (stories : Stories) → InOrder stories → (t : TerminalNode) (id : ℕ) (h : TerminalHalf) (l : LinkId) (f : Flight) → is_same_node l.from T ≡ false
-      → IsTrue layout stories l f → IsReadRight layout l f
+      → IsTrue layout stories l f → IsReadRight layout stories l f
       → InfersFor h f → IsHalfOf layout stories id h → TerminalIs stories t → AirGoes stories t id (terminal_air_in h l.from f)
   half_goes stories order t id h l (flight.Air i g num tag pdu) apart truth reads infers here is =
       elim (cases_Bool (is_taken h.setup l.from i g)) [
@@ -301,7 +301,7 @@ module _ (layout : Layout) where
   for_half h (flight.Ctl r) t id g named at infers = tt
 
   air_goes : (stories : Stories) → InOrder stories → (t : TerminalNode) (l : LinkId) (f : Flight) → is_same_node l.from T ≡ false → IsTrue layout stories l f
-      → IsReadRight layout l f → Infers t f
+      → IsReadRight layout stories l f → Infers t f
       → TerminalIs stories t → TerminalGoes stories (air_taken t l.from f (flight_named f))
   air_goes stories order t l f apart truth reads infers is = by (flight_named f) refl
     where
@@ -432,7 +432,7 @@ module _ (layout : Layout) where
   pub record ComesRight (stories : Stories) (t : TerminalNode) (l : LinkId) (f : Flight) : Type 0 where
     pub from : l.class ≡ Air → is_same_node l.from T ≡ false
     pub true' : IsTrue layout stories l f
-    pub reads : IsReadRight layout l f
+    pub reads : IsReadRight layout stories l f
     pub infers : Infers t f
     pub fits : (r : Rec) → f ≡ flight.Ctl r → l.class ≡ Ctl → IsFitOrder layout (IsNew layout T stories) r
 

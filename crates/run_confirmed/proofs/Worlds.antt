@@ -55,7 +55,7 @@ use Rattle.run_confirmed.proofs.Terminals as terminals
 -- ---- other nodes
 
 module _ (layout : Layout) (x : Node) (a b : Stories) (by : AreBy layout x a b) where
-  second_else : (y : Node) (s : SecondNode) → is_same_node x y ≡ false → IsSecondOf layout y a s → IsSecondOf layout y b s
+  pub second_else : (y : Node) (s : SecondNode) → is_same_node x y ≡ false → IsSecondOf layout y a s → IsSecondOf layout y b s
   second_else y s apart is = record {
     name = is.name;
     anchors =
@@ -77,7 +77,7 @@ module _ (layout : Layout) (x : Node) (a b : Stories) (by : AreBy layout x a b) 
     rx = λ here. absurd (let bad : false ≡ true = here in cc);
   }
 
-  master_else : (m : MasterNode) → is_same_node x M ≡ false → IsMasterNow layout a m → IsMasterNow layout b m
+  pub master_else : (m : MasterNode) → is_same_node x M ≡ false → IsMasterNow layout a m → IsMasterNow layout b m
   master_else m apart is = record {
     has = record {
       anchors =
@@ -93,7 +93,7 @@ module _ (layout : Layout) (x : Node) (a b : Stories) (by : AreBy layout x a b) 
     unused = λ id g le. unused_else id g apart (is.unused id g le);
   }
 
-  terminal_else : (t : TerminalNode) → is_same_node x T ≡ false → IsTerminalOf layout a t → IsTerminalOf layout b t
+  pub terminal_else : (t : TerminalNode) → is_same_node x T ≡ false → IsTerminalOf layout a t → IsTerminalOf layout b t
   terminal_else t apart is = record {
     halves =
         λ id. if_there (IsHalfOf layout a id) (IsHalfOf layout b id) (λ h was. record { same_id = was.same_id; n = was.n; rx = (by id h.setup.g).rx apart ∙ was.rx }) (held id t.halves) (is.halves id);
@@ -104,7 +104,7 @@ module _ (layout : Layout) (x : Node) (a b : Stories) (by : AreBy layout x a b) 
 
 module _ (layout : Layout) (c : Choices) where
   -- what is taken or copied stands on its link, and is so
-  abbrev HappensTrue : Stories → Happening → Type 0
+  abbrev pub HappensTrue : Stories → Happening → Type 0
   HappensTrue stories (given_to x (Come l f)) = IsTrue layout stories l f
   HappensTrue stories (given_to x (Cmd e)) = ⊤
   HappensTrue stories (refused_for why) = ⊤
@@ -125,7 +125,7 @@ module _ (layout : Layout) (c : Choices) where
     loss_true None = tt
     loss_true (Some f) = tt
 
-    happens_true : (e : Event) → HappensTrue stories (happening w e)
+    pub happens_true : (e : Event) → HappensTrue stories (happening w e)
     happens_true (event.Step l i) = step_true l i (slice_get (flights_on l w.links) i) refl
     happens_true (event.Lose l i) =
         either (HappensTrue stories) (is_tunnel l.class) (loss_of (slice_get (flights_on l w.links) i)) (refused_for refusal.NotTunnel) (loss_true (slice_get (flights_on l w.links) i)) tt
@@ -154,24 +154,24 @@ module _ (layout : Layout) (c : Choices) where
     pub nodes : AreNodesOf layout later done.0
     pub sends : AllByRecursion (IsTrueSend layout later) done.1.sends
 
-  terminal_right : (stories : Stories) (w : World) (i : Input) → HappensRight layout c stories w (given_to T i) → HappensTrue stories (given_to T i)
+  pub terminal_right : (stories : Stories) (w : World) (i : Input) → HappensRight layout c stories w (given_to T i) → HappensTrue stories (given_to T i)
       → terminals.InputIsRight layout stories w.terminal i
   terminal_right stories w (Cmd e) right true' = tt
   terminal_right stories w (Come l f) right true' =
       record { from = right.from; true' = true'; reads = right.reads; infers = right.infers refl; fits = right.fits }
 
-  master_right : (stories : Stories) (w : World) (i : Input) → HappensRight layout c stories w (given_to M i) → HappensTrue stories (given_to M i)
+  pub master_right : (stories : Stories) (w : World) (i : Input) → HappensRight layout c stories w (given_to M i) → HappensTrue stories (given_to M i)
       → masters.InputIsRight layout c stories w.master i
   master_right stories w (Cmd e) right true' = right
   master_right stories w (Come l f) right true' =
       record { from = right.from; to = right.to; true' = true'; reads = right.reads; adopts = right.procs.0; controls = right.procs.1 }
 
-  a_right : (stories : Stories) (w : World) (i : Input) → HappensRight layout c stories w (given_to A i) → HappensTrue stories (given_to A i)
+  pub a_right : (stories : Stories) (w : World) (i : Input) → HappensRight layout c stories w (given_to A i) → HappensTrue stories (given_to A i)
       → seconds.InputIsRight layout A refl stories i
   a_right stories w (Cmd e) right true' = tt
   a_right stories w (Come l f) right true' = record { from = right.from; to = right.to; true' = true'; reads = right.reads; fits = right.fits }
 
-  b_right : (stories : Stories) (w : World) (i : Input) → HappensRight layout c stories w (given_to B i) → HappensTrue stories (given_to B i)
+  pub b_right : (stories : Stories) (w : World) (i : Input) → HappensRight layout c stories w (given_to B i) → HappensTrue stories (given_to B i)
       → seconds.InputIsRight layout B refl stories i
   b_right stories w (Cmd e) right true' = tt
   b_right stories w (Come l f) right true' = record { from = right.from; to = right.to; true' = true'; reads = right.reads; fits = right.fits }
@@ -274,29 +274,29 @@ module _ (layout : Layout) (c : Choices) where
       → AreNodesOf layout stories (world_step c w e).0
   same_nodes stories e w is = record { terminal = is.terminal; master = is.master; a = is.a; b = is.b }
 
+  -- by the stories after it
+  pub world_so : (stories : Stories) (w : World) (e : Event) → IsWorldOf layout stories w → (later : Stories) (node : Node) → AreBy layout node stories later
+      → AreNodesOf layout later (carried_on c w (happening w e)).0 → AllByRecursion (IsTrueSend layout later) (carried_on c w (happening w e)).1.sends
+      → IsWorldOf layout later (world_step c w e).0
+  world_so stories w e is later node by nodes sent =
+      let x = (world_step c w e).1 in
+      let grows = λ (id g : ℕ). (by id g).later in
+      record {
+        long = long_next c w e is.long;
+        nodes = same_nodes later e w nodes;
+        flights = λ l.
+            subst (AllByRecursion (IsTrue layout later l)) (sym (flights_next c w e l is.long))
+            (each_append (IsTrue layout later l) (without_taken l (place_taken e x.answer) (flights_on l w.links)) (put_on l x.lines)
+            (left_true later l (place_taken e x.answer) (flights_on l w.links) (trues_later layout stories later grows l (flights_on l w.links) (is.flights l)))
+            (puts_true later l (sends x.lines) (sends_true later x.lines (lines_true later (carried_on c w (happening w e)).1 sent))));
+        order = λ id g. (by id g).later.order;
+      }
+
   pub event_goes : (stories : Stories) (w : World) (e : Event) → IsWorldOf layout stories w → HappensRight layout c stories w (happening w e)
       → EventGoes stories (world_step c w e).0
   event_goes stories w e is right =
-      let what = happening w e in
-      let got = carries stories w what is.order is.nodes right (happens_true stories w is.flights e) in
-      let x = (world_step c w e).1 in
-      let later = got.later in
-      let grows = λ (id g : ℕ). (got.by id g).later in
-      record {
-        later = later;
-        node = got.node;
-        by = got.by;
-        so = record {
-          long = long_next c w e is.long;
-          nodes = same_nodes later e w got.nodes;
-          flights = λ l.
-              subst (AllByRecursion (IsTrue layout later l)) (sym (flights_next c w e l is.long))
-              (each_append (IsTrue layout later l) (without_taken l (place_taken e x.answer) (flights_on l w.links)) (put_on l x.lines)
-              (left_true later l (place_taken e x.answer) (flights_on l w.links) (trues_later layout stories later grows l (flights_on l w.links) (is.flights l)))
-              (puts_true later l (sends x.lines) (sends_true later x.lines (lines_true later (carried_on c w what).1 got.sends))));
-          order = λ id g. (got.by id g).later.order;
-        };
-      }
+      let got = carries stories w (happening w e) is.order is.nodes right (happens_true stories w is.flights e) in
+      record { later = got.later; node = got.node; by = got.by; so = world_so stories w e is got.later got.node got.by got.nodes got.sends }
 
   -- ---- a run
 

@@ -1,5 +1,5 @@
 -- What flights on their way say of what was sent for the terminal, and of what it received (TS 38.425, 5.4).
-use Rattle.std.specs.Prelude.{Bool, IfSome, List, Option, Some, [], false, slice_get, true, ⊤, ℕ, ◌<◌, ◌^◌, ◌≡◌, ◌⊎◌}
+use Rattle.std.specs.Prelude.{Bool, IfSome, length, List, Option, Some, [], false, slice_get, true, ⊤, ℕ, ◌<◌, ◌^◌, ◌≡◌, ◌≤◌, ◌⊎◌}
 use Rattle.dc_base.specs.Nodes.{is_same_node}
 use Rattle.dc_base.specs.declared.flights.Flight.{Flight}
 use Rattle.dc_base.specs.declared.flights.Flight.TheVariants as flight
@@ -13,7 +13,7 @@ use Rattle.nr_u.specs.declared.frame.Frame.{Frame}
 use Rattle.pdcp_pdu.specs.DataPdu.{is_data}
 use Rattle.pdcp_pdu.specs.Pdu.{decoded}
 use Rattle.node_rules.specs.Choices.{Send}
-use Rattle.node_rules.specs.Packets.{Packet, delivery, down_packet, forwarding, nothing, packet_of, pdu_down, pdu_up, status_packet}
+use Rattle.node_rules.specs.Packets.{Packet, delivery, forwarding, nothing, packet_of, pdu_down, pdu_up, status_packet}
 use Rattle.run_confirms.specs.Anchors.{IsInTunnel}
 use Rattle.run_confirms.specs.Hosts.{Shows}
 use Rattle.run_confirms.specs.Statuses.{IsAckOf, IsStatusOf}
@@ -25,6 +25,7 @@ pub record IsDown (stories : Stories) (tag : Option ℕ) (packet : List ℕ) : T
   pub id : ℕ
   pub g : ℕ
   pub sent : IsInTunnel id g (stories id g).tunnel tag packet
+  pub named : IsNamedRight id g []
 
 -- a packet with a delivery status that says the truth
 pub record IsTold (layout : Layout) (stories : Stories) (tag : Option ℕ) (packet : List ℕ) : Type 0 where
@@ -73,15 +74,14 @@ pub record ShowsTag (n : SnLen) (tag : Option ℕ) (pdu : List ℕ) : Type 0 whe
   pub shows : Shows n tag (decoded n pdu)
   pub data' : IfSome tag (λ count. is_data pdu ≡ true)
 
--- a PDU for a host is read as it was sent: its number has 24 bits, its packet names its bearer, and it shows its COUNT
+-- a PDU for a host is read as it was sent: its number has 24 bits, it has at most 32,768 octets, and it shows its COUNT
 pub record IsReadDown (layout : Layout) (id g number : ℕ) (tag : Option ℕ) (pdu : List ℕ) : Type 0 where
   pub small : number < 2 ^ 24
-  pub named : IsNamedRight id g pdu
+  pub short : length pdu ≤ 2 ^ 15
   pub shows : ShowsTag (layout.n id g) tag pdu
 
--- a flight is read as it was sent
-abbrev pub IsReadRight : Layout → LinkId → Flight → Type 0
-IsReadRight layout l (flight.Tun tag packet) =
-    (id g number : ℕ) (repeat : Bool) (pdu : List ℕ) → packet ≡ down_packet g id number repeat pdu → IsReadDown layout id g number tag pdu
-IsReadRight layout l (flight.Air id g num tag pdu) = is_same_node l.from T ≡ false → ShowsTag (layout.n id g) tag pdu
-IsReadRight layout l _ = ⊤
+-- a flight is read as it was sent: a PDU in a tunnel, by whatever number of the stories it was
+abbrev pub IsReadRight : Layout → Stories → LinkId → Flight → Type 0
+IsReadRight layout stories l (flight.Tun tag packet) = (d : IsDown stories tag packet) → IsReadDown layout d.id d.g d.sent.number tag d.sent.pdu
+IsReadRight layout stories l (flight.Air id g num tag pdu) = is_same_node l.from T ≡ false → ShowsTag (layout.n id g) tag pdu
+IsReadRight layout stories l _ = ⊤

@@ -8,7 +8,11 @@ pub mod Nodes
 pub mod Plans
 -- the master
 pub mod Masters
+-- where plans have anchors and leg hosts
+pub mod Laid
 -- all nodes and links
 pub mod Worlds
+-- what is still asked of a run
+pub mod Heard
 -- what an anchor stops to keep
 pub mod Confirmed

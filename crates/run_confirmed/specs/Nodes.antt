@@ -32,6 +32,12 @@ abbrev pub IsSteady : AnchorState → Type 0
 IsSteady (waiting_anchor w) = IfSome w.transfer (λ status. status.dl < 2 ^ 32)
 IsSteady (active_anchor a) = IsSteadyEntity a.entity
 
+-- a TEID names the identity and the generation
+pub record IsNameable (id g : ℕ) : Type 0 where
+  pub some : 1 ≤ id
+  pub small : id ≤ 32
+  pub generation : g < 2 ^ 24
+
 -- an anchor of an identity at a node sent what the story of its generation says
 pub record IsAnchorOf (layout : Layout) (stories : Stories) (x : Node) (id : ℕ) (a : AnchorState) : Type 0 where
   pub same_id : (setup_at a).id ≡ id
@@ -40,12 +46,7 @@ pub record IsAnchorOf (layout : Layout) (stories : Stories) (x : Node) (id : ℕ
   pub n : (setup_at a).n ≡ layout.n id (setup_at a).g
   pub sent : StateSent (stories id (setup_at a).g).own (stories id (setup_at a).g).tunnel a
   pub steady : IsSteady a
-
--- a TEID names the identity and the generation
-pub record IsNameable (id g : ℕ) : Type 0 where
-  pub some : 1 ≤ id
-  pub small : id ≤ 32
-  pub generation : g < 2 ^ 24
+  pub named : IsNameable id (setup_at a).g
 
 -- a leg host of an identity at a node has what the story says
 pub record IsHostOf (layout : Layout) (stories : Stories) (x : Node) (id : ℕ) (h : Host) : Type 0 where

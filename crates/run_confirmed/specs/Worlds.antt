@@ -62,7 +62,7 @@ ProcsTake layout c w x l f = ⊤
 pub record IsTakenRight (layout : Layout) (c : Choices) (stories : Stories) (w : World) (x : Node) (l : LinkId) (f : Flight) : Type 0 where
   pub from : l.class ≡ Air → is_same_node l.from T ≡ not (is_same_node x T)
   pub to : l.to ≡ x
-  pub reads : IsReadRight layout l f
+  pub reads : IsReadRight layout stories l f
   pub infers : is_same_node x T ≡ true → Infers w.terminal f
   pub fits : (r : Rec) → f ≡ flight.Ctl r → l.class ≡ Ctl → FitsAt layout stories x r
   pub procs : ProcsTake layout c w x l f

@@ -28,20 +28,11 @@ use Rattle.run_words.proofs.Standing.{found_at}
 use Rattle.run_holders.specs.Actives.{Actives}
 use Rattle.run_holders.specs.Fitting.{HoldsAll}
 use Rattle.run_holders.specs.Holdings.{Holding, holdings, latest_in, new_holding}
+use Rattle.run_holders.specs.LeftOver.{TakesNone, dropped_in, drops_in}
 use Rattle.run_holders.proofs.HeldLines.{HoldsIn, drops_off, drops_other}
 use Rattle.run_holders.proofs.HeldSeeing.{draws, judged_seen, settings_none, with_event, with_flight, with_given, with_record}
 
 -- ---- what a node takes
-
--- the items that a record drops, where a node takes it
-abbrev pub dropped_in : Rec → List Item
-dropped_in (rec.Modreq q key) = q.items
-dropped_in _ = []
-
--- of a flight
-abbrev pub drops_in : Flight → List Item
-drops_in (flight.Ctl r) = dropped_in r
-drops_in _ = []
 
 record_other : (x y : Node) (r : Rec) (k e : ℕ) (hs : List Holding) → is_same_node x y ≡ false → HoldsIn hs k y e → HoldsIn (with_record x r hs) k y e
 record_other x y (rec.Modreq q key) k e hs apart is = drops_other x y q.g e k q.items hs apart is
@@ -98,11 +89,6 @@ drawn_holds p (event.Lose l i) y b none k g at hs is = is
 drawn_holds p (event.Again l i) y b none k g at hs is = is
 
 -- ---- the event
-
--- the flight that a step takes leaves what these hold
-abbrev pub TakesNone : Past → Node → Actives → Event → Type 0
-TakesNone p y b (event.Step l i) = (f : Flight) → find_at l i p.standing ≡ Some (l, f) → (k g : ℕ) → b k ≡ Some g → (is_same_node l.to y ≡ false) ⊎ (list_any (unsets k) (drops_in f) ≡ false)
-TakesNone p y b _ = ⊤
 
 -- what is found at a place of a link is on the link
 abbrev FoundOn : LinkId → Option (LinkId × Flight) → Type 0

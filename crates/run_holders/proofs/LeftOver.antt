@@ -25,7 +25,7 @@ use Rattle.run_holders.specs.Lines.{IsQuiet, is_give_line, is_handing_line}
 use Rattle.run_holders.specs.Owning.{OwnsWell}
 use Rattle.run_holders.specs.Requests.{AskSecond}
 use Rattle.run_holders.specs.Suited.{AllHold, HappensSuited, RunsSuited, actives_at}
-use Rattle.run_holders.proofs.JudgedHolds.{TakesNone}
+use Rattle.run_holders.specs.LeftOver.{HappensWell, MasterLines, RunsWell, SecondLines}
 use Rattle.run_holders.proofs.MasterBefore.{suited_master}
 use Rattle.run_holders.proofs.NamesApart.{Descends, drawn_descends}
 use Rattle.run_holders.proofs.OwnSuits.{all_apart}
@@ -34,35 +34,6 @@ use Rattle.run_holders.proofs.Requests.{asks_new, asks_next}
 use Rattle.run_holders.proofs.Runs.{Stands, all_hold_if, gives_by_holder_if, hands_by_holder_if, stands_new, stands_next}
 use Rattle.run_holders.proofs.SecondSuited.{suited_a, suited_b, suits_a, suits_b}
 use Rattle.run_holders.proofs.TerminalSuited.{terminal_suited}
-
--- the lines of a step of the master suit the past by what is active before it, or they say nothing of anchors and suit it by what is
--- active after it; none says that it has an active anchor of what is active elsewhere
-abbrev pub MasterLines : Choices → Past → World → Event → Happening → Type 0
-MasterLines c p w e h =
-    (AllSuit (judged e (carried_on c w h).1.answer p) (actives_at M w) (lines_of (carried_on c w h).1)
-    ⊎ (AllByRecursion IsQuiet (lines_of (carried_on c w h).1) × AllSuit (judged e (carried_on c w h).1.answer p) (actives_at M (carried_on c w h).0) (lines_of (carried_on c w h).1)))
-    × ((y : Node) → is_same_node M y ≡ false → AllByRecursion (IsApart (actives_at y w)) (lines_of (carried_on c w h).1))
-
--- a secondary node takes no record that drops what it has an active anchor of, or it has none after it and the lines say nothing of
--- anchors; each anchor that becomes active there is of the latest establishment and of nothing that is active elsewhere
-abbrev pub SecondLines : Choices → Past → World → Event → Node → Happening → Type 0
-SecondLines c p w e x h =
-    (TakesNone p x (actives_at x w) e ⊎ (TakesNone p x (actives_at x (carried_on c w h).0) e × AllByRecursion IsQuiet (lines_of (carried_on c w h).1)))
-    × AllByRecursion (OwnsWell (judged e (carried_on c w h).1.answer p) w x) (lines_of (carried_on c w h).1)
-
--- so it is of what happens; of the terminal nothing is asked
-abbrev pub HappensWell : Choices → Past → World → Event → Happening → Type 0
-HappensWell c p w e (given_to T i) = ⊤
-HappensWell c p w e (given_to M i) = MasterLines c p w e (given_to M i)
-HappensWell c p w e (given_to A i) = SecondLines c p w e A (given_to A i)
-HappensWell c p w e (given_to B i) = SecondLines c p w e B (given_to B i)
-HappensWell c p w e (refused_for why) = ⊤
-HappensWell c p w e (on_links effects) = ⊤
-
--- and of each event of a run
-abbrev pub RunsWell : Choices → Past → World → List Event → Type 0
-RunsWell c p w [] = ⊤
-RunsWell c p w (e ∷ es) = HappensWell c p w e (happening w e) × RunsWell c (after p (world_step c w e).1) (world_step c w e).0 es
 
 happens_suited : (c : Choices) (p : Past) (w : World) (e : Event) → Stands p w → AskSecond w → IsWhole w → (h : Happening) → happening w e ≡ h → Descends (after p (entry_with e (carried_on c w h).1))
     → HappensWell c p w e h → HappensSuited c p w e h

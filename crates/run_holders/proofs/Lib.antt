@@ -36,3 +36,27 @@ pub mod Requests
 pub mod MasterBefore
 pub mod Quiet
 pub mod LeftOver
+-- steps of secondary nodes meet what they have to
+pub mod SecondWellAlways
+pub mod SecondWellActs
+pub mod SecondWellOwns
+pub mod SecondWellLatest
+pub mod SecondWellPlans
+pub mod SecondWellWaits
+pub mod SecondWellJudged
+pub mod SecondWellApart
+pub mod SecondWellDrops
+pub mod SecondWell
+-- the steps of the master
+pub mod MasterWellSets
+pub mod MasterWellLines
+pub mod MasterWellCut
+pub mod MasterWellGoes
+pub mod MasterWellItems
+pub mod MasterWellActs
+pub mod MasterWellSteps
+pub mod MasterWellAdopts
+pub mod MasterWellFits
+pub mod MasterWell
+-- each run
+pub mod Always

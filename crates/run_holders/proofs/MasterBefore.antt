@@ -31,7 +31,8 @@ use Rattle.run_holders.specs.Fitting.{AllSuit, HoldsAll, IsApart}
 use Rattle.run_holders.specs.Requests.{AskSecond, AsksSecond}
 use Rattle.run_holders.specs.Suited.{IsSuited, actives_at}
 use Rattle.run_holders.proofs.BearerBefore.{bearer_before}
-use Rattle.run_holders.proofs.JudgedHolds.{SetsUpNone, TakesNone, drops_in, judged_holds}
+use Rattle.run_holders.specs.LeftOver.{TakesNone, drops_in}
+use Rattle.run_holders.proofs.JudgedHolds.{SetsUpNone, judged_holds}
 use Rattle.run_holders.proofs.OneNode.{master_marks}
 use Rattle.run_holders.proofs.Runs.{Stands}
 use Rattle.run_holders.proofs.TerminalSuited.{taker, takes_apart}

@@ -22,7 +22,8 @@ use Rattle.run_holders.specs.Fitting.{AllSuit, IsApart}
 use Rattle.run_holders.specs.Lines.{IsQuiet}
 use Rattle.run_holders.specs.Requests.{AskSecond}
 use Rattle.run_holders.specs.Suited.{IsSuited, actives_at}
-use Rattle.run_holders.proofs.JudgedHolds.{TakesNone, judged_holds}
+use Rattle.run_holders.specs.LeftOver.{TakesNone}
+use Rattle.run_holders.proofs.JudgedHolds.{judged_holds}
 use Rattle.run_holders.proofs.MasterBefore.{master_before}
 use Rattle.run_holders.proofs.OneNode.{master_marks, second_marks}
 use Rattle.run_holders.proofs.Runs.{Stands}

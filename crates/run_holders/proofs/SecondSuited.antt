@@ -22,7 +22,8 @@ use Rattle.run_holders.specs.Actives.{Actives, LinesFit}
 use Rattle.run_holders.specs.Fitting.{AllSuit}
 use Rattle.run_holders.specs.Owning.{OwnsWell, is_begin_line}
 use Rattle.run_holders.specs.Suited.{IsSuited, actives_at}
-use Rattle.run_holders.proofs.JudgedHolds.{TakesNone, judged_holds}
+use Rattle.run_holders.specs.LeftOver.{TakesNone}
+use Rattle.run_holders.proofs.JudgedHolds.{judged_holds}
 use Rattle.run_holders.proofs.NamesApart.{Descends, before_descends}
 use Rattle.run_holders.proofs.OneNode.{second_marks}
 use Rattle.run_holders.proofs.OwnSuits.{all_apart, all_suit}

@@ -36,7 +36,8 @@ use Rattle.run_holders.specs.Actives.{Actives, LineFits, LinesFit, line_actives}
 use Rattle.run_holders.specs.Fitting.{AllSuit, HoldsAll, IsApart, Suits}
 use Rattle.run_holders.specs.Suited.{IsSuited, actives_at}
 use Rattle.run_holders.proofs.HeldLines.{OrdersAsMaster}
-use Rattle.run_holders.proofs.JudgedHolds.{SetsUpNone, TakesNone, judged_holds}
+use Rattle.run_holders.specs.LeftOver.{TakesNone}
+use Rattle.run_holders.proofs.JudgedHolds.{SetsUpNone, judged_holds}
 use Rattle.run_holders.proofs.Runs.{by_terminal}
 use Rattle.run_senders.proofs.TerminalKinds.{terminal_kinds}
 use Rattle.dc_base.specs.declared.answers.Answer.{Answer}

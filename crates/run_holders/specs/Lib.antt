@@ -14,3 +14,5 @@ pub mod Owning
 pub mod Requests
 -- lines of holders
 pub mod Lines
+-- what the lines of each event have to meet
+pub mod LeftOver
