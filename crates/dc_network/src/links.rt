@@ -7,71 +7,14 @@ ghost use Rattle.node_rules.specs.World.{first_loaded, flights_on, no_links, wit
 ghost use Rattle.transcript.specs.Transcript.{sends};
 
 use dc_base::{Flight, Line, LinkId, Memory};
+use flight_queue::FlightQueue;
 use std::alloc::Global;
-use std::collections::VecDeque;
 use std::marker::Model;
 
-/// What stands on one link, in order.
-#[derive(Drop)]
-struct Link {
-    flights: VecDeque<Flight>,
-}
-
-impl Model for Link {
-    ghost use Rattle.std.specs.Prelude.{List};
-    ghost use Rattle.dc_base.specs.declared.flights.Flight.{Flight};
-
-    ghost Value = { List Flight };
-
-    ghost view = { λ a. a.flights.items };
-}
-
-impl Link {
-    // A link on which nothing stands.
-    fn new(alloc: Global) -> Link
-        ensures { result ≡ [] }
-    {
-        Link {
-            flights: VecDeque::new(alloc),
-        }
-    }
-
-    fn len(&self) -> usize
-        ensures { result ≡ length self.now }
-    {
-        self.flights.len()
-    }
-
-    fn flight(&self, position: usize) -> Option<&Flight>
-        ensures { option_copied result ≡ slice_get self.now position }
-    {
-        self.flights.get(position)
-    }
-
-    // The flight at this place is taken away.
-    fn take(&mut self, position: usize) -> Flight
-        requires { position < length self.old }
-        ensures flight { slice_get self.old position ≡ Some result }
-        ensures rest { self.new ≡ remove self.old position }
-    {
-        match self.flights.remove(position) {
-            Some(flight) => flight,
-            None => unreachable!(),
-        }
-    }
-
-    fn put(&mut self, flight: Flight) -> Result<(), Memory>
-        ensures { OnOk result (self.new ≡ self.old ++ flight ∷ []) }
-    {
-        self.flights.push_back(flight)?;
-        Ok(())
-    }
-}
-
-/// All links by their numbers. A step at the front of a link, however long, takes the same time.
+/// All links by their numbers. A step at any place of a link takes a time that hardly grows with the flights on it.
 #[derive(Drop)]
 pub struct LinkSet {
-    links: Vec<Link>,
+    links: Vec<FlightQueue>,
 }
 
 impl Model for LinkSet {
@@ -92,7 +35,7 @@ impl LinkSet {
     {
         let mut links = Vec::new(alloc);
         for _place in 0..64usize {
-            links.push(Link::new(alloc))?;
+            links.push(FlightQueue::new(alloc))?;
         }
         Ok(LinkSet { links })
     }

@@ -1,0 +1,2 @@
+-- where a flight stands among runs
+pub mod Places

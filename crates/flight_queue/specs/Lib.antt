@@ -1,0 +1,2 @@
+-- flights as runs
+pub mod Runs
