@@ -30,7 +30,7 @@ use Rattle.check_form.specs.Verdicts.{AllHold, BeginsWith, FailsAt, IsAfter, IsC
 -- ---- the beginning
 
 pub so_far_first : (octets : List ℕ) (left : Option (List ℕ)) (h : Header) (at : Entries) (parts : Parts) → IsOpened (Some octets) left h at
-    → ((k : Header) (policies : ℕ) → ArePartsOf parts (new_past k policies)) → IsAfter octets 0 at (ahead at.reader left) parts
+    → ((policies : ℕ) → ArePartsOf parts (new_past h policies)) → IsAfter octets 0 at (ahead at.reader left) parts
 so_far_first octets left h at parts opened are = record {
   header = h;
   before = [];
@@ -38,7 +38,7 @@ so_far_first octets left h at parts opened are = record {
     begins = record { header = opened.header; read = opened.read };
     taken = omega (arith, opened.taken);
     hold = λ policies c. tt;
-    are = λ policies. are h policies;
+    are = are;
   };
   counted = refl;
 }

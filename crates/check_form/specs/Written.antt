@@ -4,7 +4,7 @@ use Rattle.std.specs.Fmt.{decimal}
 use Rattle.std.specs.Io.KnownBytes.{Appends}
 use Rattle.dc_outside.specs.Octets.{AppendsFront}
 use Rattle.checker.specs.declared.claim.Claim.{Claim}
-use Rattle.checker.specs.declared.claim.Claim.TheVariants.{Consequence, LossCause, OnLink}
+use Rattle.checker.specs.declared.claim.Claim.TheVariants.{Cause, Consequence, OnLink, Planned}
 use Rattle.transcript_entries.specs.declared.fault.EntryFault.TheVariants as fault
 use Rattle.check_form.specs.declared.outcome.Outcome.{Outcome}
 use Rattle.check_form.specs.declared.outcome.Outcome.TheVariants as outcome
@@ -25,18 +25,20 @@ outcome_number outcome.Fails = 7
 abbrev pub claim_name : Claim → List ℕ
 claim_name Consequence = codes "consequence"
 claim_name OnLink = codes "on_link"
-claim_name LossCause = codes "cause"
+claim_name Cause = codes "cause"
+claim_name Planned = codes "planned"
 
 -- what is wrong where it does not hold
 abbrev pub claim_reason : Claim → List ℕ
 claim_reason Consequence = codes "an event has one answer, and after it stand notes and sends alone"
 claim_reason OnLink = codes "this flight may not stand on this link"
-claim_reason LossCause = codes "this answer is not due to the event"
+claim_reason Cause = codes "this answer is not due to the event"
+claim_reason Planned = codes "this plan was not drawn with its generation"
 
 -- the line where every claim that is decided holds
 abbrev pub holds_text : ℕ → List ℕ
 holds_text entries =
-    codes "ok: " ++ decimal entries ++ codes " entries; decided: consequence; on_link, but for the form of packets; cause, of losses and copies\n"
+    codes "ok: " ++ decimal entries ++ codes " entries; decided: cause, but for full windows and aged flights; consequence; on_link, but for the form of packets; planned\n"
 
 -- the line where one does not
 abbrev pub fails_text : ℕ → Claim → List ℕ

@@ -34,8 +34,9 @@ fn check_all<S: Source>(alloc: Global, source: &mut S) -> Result<Verdict, EntryF
     ensures fault { IsErrOf result ReadFault → Rose (S.fault_count source.old) (S.fault_count source.new) }
 {
     let opened = EntryReader::open(alloc, source)?;
+    let header = opened.0;
     let mut reader = opened.1;
-    let mut checker = Checker::new(alloc)?;
+    let mut checker = Checker::new(alloc, &header)?;
     check_entries(&mut reader, &mut checker, source)
 }
 

@@ -18,7 +18,7 @@ pub fn holds_text(alloc: Global, entries: u32) -> Result<Octets, Memory>
     write_decimal(&mut text, u64::from(entries))?;
     write_text(
         &mut text,
-        " entries; decided: consequence; on_link, but for the form of packets; cause, of losses and copies\n",
+        " entries; decided: cause, but for full windows and aged flights; consequence; on_link, but for the form of packets; planned\n",
     )?;
     Ok(text)
 }
@@ -58,7 +58,8 @@ fn name_of(claim: Claim) -> &'static str
     match claim {
         Claim::Consequence => "consequence",
         Claim::OnLink => "on_link",
-        Claim::LossCause => "cause",
+        Claim::Cause => "cause",
+        Claim::Planned => "planned",
     }
 }
 
@@ -69,6 +70,7 @@ fn reason_of(claim: Claim) -> &'static str
     match claim {
         Claim::Consequence => "an event has one answer, and after it stand notes and sends alone",
         Claim::OnLink => "this flight may not stand on this link",
-        Claim::LossCause => "this answer is not due to the event",
+        Claim::Cause => "this answer is not due to the event",
+        Claim::Planned => "this plan was not drawn with its generation",
     }
 }

@@ -1,5 +1,5 @@
 -- What the first claim that an entry breaks says: none where each claim holds of the entry, and else one that does not hold.
-use Rattle.std.proofs.Common.{ℕ, zero, suc, ◌≡◌, ◌+◌, ◌++◌, ◌⊎◌, Bool, true, false, List, [], ◌∷◌, Option, Some, None, slice_get, take, refl, sym, ap, ◌∙◌, subst, arith, zero-add, inl, inr}
+use Rattle.std.proofs.Common.{ℕ, suc, ◌≡◌, ◌+◌, ◌++◌, Bool, true, false, List, [], ◌∷◌, Option, Some, None, slice_get, take, refl, sym, ap, ◌∙◌, subst, arith, zero-add, inl, inr}
 use Rattle.std.specs.Prelude.{fold, not}
 use Rattle.std.specs.List.{AllByRecursion, find}
 use Rattle.std.proofs.lemmas.Bool.{cases_Bool}
@@ -15,7 +15,7 @@ use Rattle.checker.specs.Decided.{at_entry, at_line, broken_by_entry, broken_by_
 use Rattle.checker.specs.Says.{HoldsOf, IsBrokenAt}
 use Rattle.checker.specs.declared.claim.Broken.{Broken}
 use Rattle.checker.specs.declared.claim.Claim.{Claim}
-use Rattle.checker.specs.declared.claim.Claim.TheVariants.{Consequence, LossCause, OnLink}
+use Rattle.checker.specs.declared.claim.Claim.TheVariants.{Cause, Consequence, OnLink, Planned}
 
 -- what is not found passes no test
 none_found : {X : Type 0} (test : X → Bool) (xs : List X) → find test xs ≡ None → AllByRecursion (λ x. test x ≡ false) xs
@@ -35,9 +35,10 @@ some_found test (x ∷ xs) y is = elim (cases_Bool (test x)) [
 
 -- a fact of each claim that is decided
 each_decided : (P : Claim → Type 0) → AllByRecursion P decided → (c : Claim) → P c
-each_decided P h Consequence = h.0
-each_decided P h OnLink = h.1.0
-each_decided P h LossCause = h.1.1.0
+each_decided P h Cause = h.0
+each_decided P h Consequence = h.1.0
+each_decided P h OnLink = h.1.1.0
+each_decided P h Planned = h.1.1.1.0
 
 -- a test that does not fail
 not_false : (b : Bool) → not b ≡ false → b ≡ true
@@ -58,24 +59,20 @@ line_holds : (p : Past) (x : Line) → broken_by_line p x ≡ None → (c : Clai
 line_holds p x is c =
     not_false ((claim_of c).of_line p x) (each_decided (λ d. not ((claim_of d).of_line p x) ≡ false) (none_found (λ d. not ((claim_of d).of_line p x)) decided is) c)
 
-lines_hold : (xs : List Line) (p : Past) (k : ℕ) (later : Option Broken) → broken_in_lines p k xs later ≡ None
-    → ((c : Claim) → EachLine (claim_of c).of_line p xs) × (later ≡ None)
-lines_hold [] p k later is = (λ c. tt, is)
-lines_hold (x ∷ xs) p k later is =
-    let parts = no_or (at_line k) (broken_by_line p x) (broken_in_lines (noted p x) (k + 1) xs later) is in
-    let rest = lines_hold xs (noted p x) (k + 1) later parts.1 in
-    (λ c. (line_holds p x parts.0 c, rest.0 c), rest.1)
+lines_hold : (xs : List Line) (p : Past) (k : ℕ) → broken_in_lines p k xs ≡ None → (c : Claim) → EachLine (claim_of c).of_line p xs
+lines_hold [] p k is c = tt
+lines_hold (x ∷ xs) p k is c =
+    let parts = no_or (at_line k) (broken_by_line p x) (broken_in_lines (noted p x) (k + 1) xs) is in
+    (line_holds p x parts.0 c, lines_hold xs (noted p x) (k + 1) parts.1 c)
 
 -- each claim that is decided holds of an entry that breaks none
 pub none_broken : (p : Past) (e : Entry) → first_broken p e ≡ None → (c : Claim) → HoldsOf c p e
 none_broken p e is c =
-    let whole = or_broken at_entry (broken_by_entry p e (after p e)) None in
-    let lines = lines_hold e.lines (judged e.event e.answer p) 0 whole is in
-    let none = no_or at_entry (broken_by_entry p e (after p e)) None lines.1 in
+    let parts = no_or at_entry (broken_by_entry p e (after p e)) (broken_in_lines (judged e.event e.answer p) 0 e.lines) is in
     record {
-      lines = lines.0 c;
+      lines = lines_hold e.lines (judged e.event e.answer p) 0 parts.1 c;
       whole = not_false ((claim_of c).of_entry p e (after p e))
-          (each_decided (λ d. not ((claim_of d).of_entry p e (after p e)) ≡ false) (none_found (λ d. not ((claim_of d).of_entry p e (after p e))) decided none.0) c);
+          (each_decided (λ d. not ((claim_of d).of_entry p e (after p e)) ≡ false) (none_found (λ d. not ((claim_of d).of_entry p e (after p e))) decided parts.0) c);
     }
 
 -- ---- one is
@@ -108,35 +105,31 @@ later_in p x xs k b rest = record {
   broken = rest.broken;
 }
 
-in_or : (p : Past) (x : Line) (xs : List Line) (k : ℕ) (later : Option Broken) (b : Broken) (o : Option Claim) → broken_by_line p x ≡ o
-    → or_broken (at_line k) o (broken_in_lines (noted p x) (k + 1) xs later) ≡ Some b
-    → (broken_in_lines (noted p x) (k + 1) xs later ≡ Some b → IsIn (noted p x) xs (k + 1) b ⊎ (later ≡ Some b))
-    → IsIn p (x ∷ xs) k b ⊎ (later ≡ Some b)
-in_or p x xs k later b (Some c) found is rest = inl (first_in p x xs k b c found (same_Some (at_line k c) b is))
-in_or p x xs k later b None found is rest = elim (rest is) [ inl there ↦ inl (later_in p x xs k b there) | inr after ↦ inr after ]
+in_or : (p : Past) (x : Line) (xs : List Line) (k : ℕ) (b : Broken) (o : Option Claim) → broken_by_line p x ≡ o
+    → or_broken (at_line k) o (broken_in_lines (noted p x) (k + 1) xs) ≡ Some b
+    → (broken_in_lines (noted p x) (k + 1) xs ≡ Some b → IsIn (noted p x) xs (k + 1) b) → IsIn p (x ∷ xs) k b
+in_or p x xs k b (Some c) found is rest = first_in p x xs k b c found (same_Some (at_line k c) b is)
+in_or p x xs k b None found is rest = later_in p x xs k b (rest is)
 
-in_lines : (xs : List Line) (p : Past) (k : ℕ) (later : Option Broken) (b : Broken) → broken_in_lines p k xs later ≡ Some b → IsIn p xs k b ⊎ (later ≡ Some b)
-in_lines [] p k later b is = inr is
-in_lines (x ∷ xs) p k later b is =
-    in_or p x xs k later b (broken_by_line p x) refl is (λ after. in_lines xs (noted p x) (k + 1) later b after)
+in_lines : (xs : List Line) (p : Past) (k : ℕ) (b : Broken) → broken_in_lines p k xs ≡ Some b → IsIn p xs k b
+in_lines [] p k b is = absurd (none-some b is)
+in_lines (x ∷ xs) p k b is =
+    in_or p x xs k b (broken_by_line p x) refl is (λ after. in_lines xs (noted p x) (k + 1) b after)
 
-by_entry : (p : Past) (e : Entry) (b : Broken) (o : Option Claim) → broken_by_entry p e (after p e) ≡ o → or_broken at_entry o None ≡ Some b → IsBrokenAt b.claim p e b.line
+by_entry : (p : Past) (e : Entry) (b : Broken) (o : Option Claim) → broken_by_entry p e (after p e) ≡ o
+    → or_broken at_entry o (broken_in_lines (judged e.event e.answer p) 0 e.lines) ≡ Some b → IsBrokenAt b.claim p e b.line
 by_entry p e b (Some c) found is =
     let fails : (claim_of c).of_entry p e (after p e) ≡ false =
     not_true ((claim_of c).of_entry p e (after p e)) (some_found (λ d. not ((claim_of d).of_entry p e (after p e))) decided c found) in
     subst (λ (d : Broken). IsBrokenAt d.claim p e d.line) (same_Some (at_entry c) b is) fails
-by_entry p e b None found is = absurd (none-some b is)
+by_entry p e b None found is =
+    let i = in_lines e.lines (judged e.event e.answer p) 0 b is in
+    let place : b.line ≡ Some i.place = i.counted ∙ ap Some (zero-add i.place) in
+    subst (λ l. IsBrokenAt b.claim p e l) (sym place) (i.line, i.there, i.broken)
 
 -- the claim that an entry breaks first does not hold where it says
 pub some_broken : (p : Past) (e : Entry) (b : Broken) → first_broken p e ≡ Some b → IsBrokenAt b.claim p e b.line
-some_broken p e b is =
-    let whole = or_broken at_entry (broken_by_entry p e (after p e)) None in
-    elim (in_lines e.lines (judged e.event e.answer p) 0 whole b is) [
-      | inl i ↦
-          let place : b.line ≡ Some i.place = i.counted ∙ ap Some (zero-add i.place) in
-          subst (λ l. IsBrokenAt b.claim p e l) (sym place) (i.line, i.there, i.broken)
-      | inr later ↦ by_entry p e b (broken_by_entry p e (after p e)) refl later
-    ]
+some_broken p e b is = by_entry p e b (broken_by_entry p e (after p e)) refl is
 
 -- ---- over entries
 

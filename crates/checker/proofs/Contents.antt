@@ -1,16 +1,21 @@
 -- By the past of the claims there stands on each link what stood there before, without what was taken and with what was sent.
-use Rattle.std.proofs.Common.{ℕ, zero, suc, ◌≡◌, ◌==◌, ◌++◌, true, false, List, [], ◌∷◌, Option, Some, None, length, slice_get, refl, sym, ap, ◌∙◌, inl, inr}
+use Rattle.std.proofs.Common.{ℕ, zero, suc, ◌≡◌, ◌<◌, ◌==◌, arith, ◌++◌, true, false, List, [], ◌∷◌, Option, Some, None, slice_get, refl, sym, ap, ◌∙◌, inl, inr}
 use Rattle.std.specs.Prelude.{if◌then◌else◌, is_none, remove}
 use Rattle.std.specs.List.{filter_map, flat_map}
 use Rattle.std.specs.Option.{option_map}
 use Rattle.std.proofs.lemmas.Bool.{cases_Bool, eqb-true}
 use Rattle.std.proofs.lemmas.List.{append-nil}
-use Rattle.dc_base.specs.Links.{is_same_link, link_number}
+use Rattle.dc_base.specs.Links.{class_number, is_same_link, link_number}
+use Rattle.dc_base.specs.Nodes.{node_number}
 use Rattle.dc_base.specs.declared.answers.Answer.{Answer}
 use Rattle.dc_base.specs.declared.events.Event.{Event}
 use Rattle.dc_base.specs.declared.events.Line.{Line}
 use Rattle.dc_base.specs.declared.flights.Flight.{Flight}
+use Rattle.dc_base.specs.declared.nodes.Class.{Class}
+use Rattle.dc_base.specs.declared.nodes.Class.TheVariants.{Ctl, Feed, Air, Tun}
 use Rattle.dc_base.specs.declared.nodes.LinkId.{LinkId}
+use Rattle.dc_base.specs.declared.nodes.Node.{Node}
+use Rattle.dc_base.specs.declared.nodes.Node.TheVariants.{T, M, A, B}
 use Rattle.transcript.specs.Content.{on_link, place_taken, put_on, without_taken}
 use Rattle.transcript.specs.Transcript.{sends, sends_of}
 use Rattle.claims.specs.Links.{find_at, without}
@@ -18,7 +23,7 @@ use Rattle.claims.specs.Past.{Past}
 use Rattle.claims.specs.Reading.{content}
 use Rattle.claims.specs.Judged.{judged}
 use Rattle.claims.specs.Noted.{noted}
-use Rattle.checker.proofs.Moments.{Moment, moment, left_after}
+use Rattle.checker.proofs.Moments.{Moment, left_after}
 use Rattle.checker.proofs.Keeping.{judged_stands, noted_stands}
 
 -- the flights of a link among flights with their links
@@ -127,3 +132,63 @@ found_none l (suc i) (s ∷ ss) =
 
 pub no_flight : (p : Past) (l : LinkId) (i : ℕ) → is_none (find_at l i p.standing) ≡ is_none (slice_get (content l p) i)
 no_flight p l i = found_none l i p.standing
+
+-- ---- the flight at a place
+
+abbrev node_of : ℕ → Node
+node_of n = if n == 0 then T else if n == 1 then M else if n == 2 then A else B
+
+node_back : (x : Node) → node_of (node_number x) ≡ x
+node_back T = refl
+node_back M = refl
+node_back A = refl
+node_back B = refl
+
+abbrev class_of : ℕ → Class
+class_of n = if n == 0 then Ctl else if n == 1 then Feed else if n == 2 then Air else Tun
+
+class_back : (c : Class) → class_of (class_number c) ≡ c
+class_back Ctl = refl
+class_back Feed = refl
+class_back Air = refl
+class_back Tun = refl
+
+node_small : (x : Node) → node_number x < 4
+node_small T = omega arith
+node_small M = omega arith
+node_small A = omega arith
+node_small B = omega arith
+
+class_small : (c : Class) → class_number c < 4
+class_small Ctl = omega arith
+class_small Feed = omega arith
+class_small Air = omega arith
+class_small Tun = omega arith
+
+-- links with the same number are the same
+same_link : (l k : LinkId) → is_same_link l k ≡ true → l ≡ k
+same_link l k same =
+    let n : link_number l ≡ link_number k = eqb-true (link_number l) (link_number k) same in
+    let from : node_number l.from ≡ node_number k.from = omega (arith, node_small l.from, node_small k.from, node_small l.to, node_small k.to) in
+    let to : node_number l.to ≡ node_number k.to = omega (arith, node_small l.from, node_small k.from, node_small l.to, node_small k.to) in
+    let class : class_number l.class ≡ class_number k.class = omega (arith, node_small l.from, node_small k.from, node_small l.to, node_small k.to) in
+    ap (λ (x : Node). record l { from = x }) (sym (node_back l.from) ∙ ap node_of from ∙ node_back k.from)
+    ∙ ap (λ (x : Node). record l { from = k.from; to = x }) (sym (node_back l.to) ∙ ap node_of to ∙ node_back k.to)
+    ∙ ap (λ (x : Class). record k { class = x }) (sym (class_back l.class) ∙ ap class_of class ∙ class_back k.class)
+
+-- it with the link
+abbrev with_link : LinkId → Flight → LinkId × Flight
+with_link l f = (l, f)
+
+found_at : (l : LinkId) (i : ℕ) (ss : List (LinkId × Flight)) → find_at l i ss ≡ option_map (with_link l) (slice_get (of_link l ss) i)
+found_at l zero [] = refl
+found_at l (suc i) [] = refl
+found_at l zero (s ∷ ss) = elim (cases_Bool (is_same_link l s.0)) [
+  | inl here ↦ rw here (ap (λ (k : LinkId). Some (k, s.1)) (sym (same_link l s.0 here)))
+  | inr there ↦ rw there (found_at l zero ss)
+]
+found_at l (suc i) (s ∷ ss) =
+    elim (cases_Bool (is_same_link l s.0)) [ inl here ↦ rw here (found_at l i ss) | inr there ↦ rw there (found_at l (suc i) ss) ]
+
+pub flight_there : (p : Past) (l : LinkId) (i : ℕ) → find_at l i p.standing ≡ option_map (λ f. (l, f)) (slice_get (content l p) i)
+flight_there p l i = found_at l i p.standing

@@ -1,5 +1,5 @@
 -- What it means that an entry breaks a claim, or none.
-use Rattle.std.specs.Prelude.{◌≡◌, ℕ, true, false, fold, take, slice_get, List, Option, Some, None}
+use Rattle.std.specs.Prelude.{◌≡◌, ℕ, true, false, fold, take, slice_get, Option, Some, None}
 use Rattle.dc_base.specs.declared.events.Line.{Line}
 use Rattle.transcript.specs.Transcript.{Entry}
 use Rattle.claims.specs.Claim.{EachLine}
@@ -7,7 +7,6 @@ use Rattle.claims.specs.Judged.{judged}
 use Rattle.claims.specs.Noted.{after, noted}
 use Rattle.claims.specs.Past.{Past}
 use Rattle.checker.specs.Decided.{claim_of}
-use Rattle.checker.specs.declared.claim.Broken.{Broken}
 use Rattle.checker.specs.declared.claim.Claim.{Claim}
 
 -- a claim holds of an entry, with the past before it: of each line, and of the entry as a whole

@@ -1,20 +1,24 @@
 //! The past of a run, in parts, and the claims that read these parts.
 
-ghost use Rattle.std.specs.Prelude.{◌≡◌, ◌<◌, ℕ, if◌then◌else◌, List, length, not, None, Some, IfNone, IfOk, IfSome, OnOk};
-ghost use Rattle.dc_base.specs.declared.events.Header.{Header};
+ghost use Rattle.std.specs.Prelude.{◌≡◌, ◌<◌, ℕ, List, length, None, Some, IfNone, IfOk, IfSome, OnOk};
+ghost use Rattle.std.specs.Option.{option_copied};
+ghost use Rattle.dc_base.specs.declared.events.Event.{Event};
+ghost use Rattle.dc_base.specs.declared.events.Event.TheVariants as events;
 ghost use Rattle.dc_base.specs.declared.events.Line.{Line};
 ghost use Rattle.claims.specs.Causes.{tunnel_due};
 ghost use Rattle.claims.specs.Judged.{judged};
 ghost use Rattle.claims.specs.Noted.{after, noted};
 ghost use Rattle.claims.specs.Past.{Past, new_past};
-ghost use Rattle.claims.specs.Sameness.{answer_number, is_same_answer};
-ghost use Rattle.checker.specs.Decided.{at_entry, broken_by_line, first_broken, loss_has_cause, or_broken};
+ghost use Rattle.checker_state.specs.Due.{decided_due, decided_of, has_decided_cause, is_of_link, without_age, without_room};
+ghost use Rattle.checker_state.specs.Steps.{flight_at};
+ghost use Rattle.checker.specs.Decided.{broken_by_line, first_broken};
 ghost use Rattle.checker.specs.Parts.{ArePartsOf};
 
 use crate::claim::{Broken, Claim};
 use crate::links::LinkQueues;
 use crate::on_link::{is_consequence, is_on_link};
-use dc_base::{Answer, Event, Line, LinkId, Memory, Refusal};
+use checker_state::{State, is_same_answer};
+use dc_base::{Answer, Event, Flight, Header, Line, LinkId, Memory, Refusal};
 use std::alloc::Global;
 use std::marker::Model;
 
@@ -22,6 +26,7 @@ use std::marker::Model;
 #[derive(Drop)]
 pub struct Checker {
     links: LinkQueues,
+    state: State,
 }
 
 /// Contracts see the parts.
@@ -30,22 +35,23 @@ impl Model for Checker {
 
     ghost Value = { Parts };
 
-    ghost view = { λ c. record { queues = c.links } };
+    ghost view = { λ c. record { queues = c.links; state = c.state } };
 }
 
 impl Checker {
     /// Nothing happened yet.
-    pub fn new(alloc: Global) -> Result<Checker, Memory>
-        ensures { IfOk result (λ made. (h : Header) (policies : ℕ) → ArePartsOf made (new_past h policies)) }
+    pub fn new(alloc: Global, header: &Header) -> Result<Checker, Memory>
+        ensures { IfOk result (λ made. (policies : ℕ) → ArePartsOf made (new_past header.now policies)) }
     {
         Ok(Checker {
             links: LinkQueues::new(alloc)?,
+            state: State::new(alloc, header)?,
         })
     }
 
-    /// The first claim that an entry breaks: each line is tried with the past up to it, and then the entry as a whole, each by the
-    /// claims in their order; `None` exactly where all claims that are decided hold of the entry. After that the entry is
-    /// part of the past; after another answer the checker is not used again.
+    /// The first claim that an entry breaks: first its answer is tried with the past before it, and then each line with the past up
+    /// to it, each by the claims in their order; `None` exactly where all claims that are decided hold of the entry. After that the
+    /// entry is part of the past; after another answer the checker is not used again.
     pub fn entry(
         &mut self,
         event: &Event,
@@ -58,10 +64,16 @@ impl Checker {
         ensures after { (p : Past) → ArePartsOf self.old p
             → IfOk result (λ found. IfNone found (ArePartsOf self.new (after p (record { event = event.now; answer = answer; lines = lines.now })))) }
     {
-        let has_cause = self.has_cause(event, answer);
-        self.judge(event, answer);
+        let has_cause = self.has_cause(event, answer)?;
+        if !has_cause {
+            return Ok(Some(Broken {
+                claim: Claim::Cause,
+                line: None,
+            }));
+        }
+        self.judge(event, answer)?;
         for (place, line) in lines.iter().enumerate() {
-            match broken_by(line) {
+            match self.broken_by(line) {
                 Some(claim) => {
                     return Ok(Some(Broken {
                         claim,
@@ -71,32 +83,95 @@ impl Checker {
                 None => self.note(line)?,
             }
         }
-        Ok(broken_as_whole(has_cause))
+        Ok(None)
     }
 
     /// The event with its answer, before its lines.
-    fn judge(&mut self, event: &Event, answer: Answer)
-        ensures { (p : Past) → ArePartsOf self.old p → ArePartsOf self.new (judged event.now answer p) }
+    fn judge(&mut self, event: &Event, answer: Answer) -> Result<(), Memory>
+        ensures { (p : Past) → ArePartsOf self.old p → OnOk result (ArePartsOf self.new (judged event.now answer p)) }
     {
+        let given = self.flight_at(event)?;
+        self.state.judge(event, answer, &given)?;
         self.links.take(event, answer);
+        Ok(())
     }
 
     /// A line of the event.
     fn note(&mut self, line: &Line) -> Result<(), Memory>
         ensures { (p : Past) → ArePartsOf self.old p → OnOk result (ArePartsOf self.new (noted p line.now)) }
     {
-        self.links.put(line)
+        self.links.put(line)?;
+        self.state.note(line)
     }
 
-    /// Whether a loss or a copy has the answer that it is due.
-    fn has_cause(&self, event: &Event, answer: Answer) -> bool
-        ensures { (p : Past) (lines : List Line) → ArePartsOf self.now p
-            → result ≡ loss_has_cause p (record { event = event.now; answer = answer; lines = lines }) }
+    /// The first claim that a line breaks.
+    fn broken_by(&self, line: &Line) -> Option<Claim>
+        ensures { (p : Past) → ArePartsOf self.now p → result ≡ broken_by_line p line.now }
+    {
+        if !is_consequence(line) {
+            Some(Claim::Consequence)
+        } else if !is_on_link(line) {
+            Some(Claim::OnLink)
+        } else if !self.state.is_planned(line) {
+            Some(Claim::Planned)
+        } else {
+            None
+        }
+    }
+
+    /// The flight that stands at the place that an event names, where it is stepped.
+    fn flight_at(&self, event: &Event) -> Result<Option<(LinkId, Flight)>, Memory>
+        ensures { (p : Past) → ArePartsOf self.now p → IfOk result (λ found. found ≡ flight_at event.now p) }
     {
         match event {
-            Event::Lose { link, index } => is_same_answer(answer, self.tunnel_due(*link, *index)),
-            Event::Again { link, index } => is_same_answer(answer, self.tunnel_due(*link, *index)),
-            _ => true,
+            Event::Step { link, index } => self.flight_on(*link, *index),
+            _ => Ok(None),
+        }
+    }
+
+    /// A copy of the flight at a place of a link.
+    fn flight_on(&self, link: LinkId, index: u32) -> Result<Option<(LinkId, Flight)>, Memory>
+        ensures { (p : Past) → ArePartsOf self.now p → IfOk result (λ found. found ≡ flight_at (events.Step link index) p) }
+    {
+        match self.links.get(link, index as usize) {
+            None => Ok(None),
+            Some(flight) => Ok(Some((link, flight.copy()?))),
+        }
+    }
+
+    /// Whether an event has the answer that it is due, as far as it is decided.
+    fn has_cause(&self, event: &Event, answer: Answer) -> Result<bool, Memory>
+        ensures { (p : Past) (lines : List Line) → ArePartsOf self.now p
+            → IfOk result (λ is. is ≡ has_decided_cause p (record { event = event.now; answer = answer; lines = lines })) }
+    {
+        let due = self.due(event, answer)?;
+        Ok(is_same_answer(decided_of(event, answer), due))
+    }
+
+    /// The answer that is due, as far as it is decided.
+    fn due(&self, event: &Event, answer: Answer) -> Result<Answer, Memory>
+        ensures { (p : Past) → ArePartsOf self.now p → IfOk result (λ made. made ≡ decided_due answer p event.now) }
+    {
+        match event {
+            Event::Step { link, index } => Ok(self.step_due(*link, *index)),
+            Event::Lose { link, index } => Ok(self.tunnel_due(*link, *index)),
+            Event::Again { link, index } => Ok(self.tunnel_due(*link, *index)),
+            _ => self.state.due(event, answer),
+        }
+    }
+
+    /// The answer that is due to a step, but for whether the flight is aged.
+    fn step_due(&self, link: LinkId, index: u32) -> Answer
+        ensures { (p : Past) (a : Answer) → ArePartsOf self.now p → result ≡ decided_due a p (events.Step link index) }
+    {
+        if index as usize >= self.links.len(link) {
+            Answer::No(Refusal::NoFlight)
+        } else if !link.class.is_ordered() {
+            Answer::Ok
+        } else if index > 0 {
+            Answer::No(Refusal::NotFirst)
+        } else {
+            Answer::Ok
         }
     }
 
@@ -114,61 +189,34 @@ impl Checker {
     }
 }
 
-/// The first claim that a line breaks.
-fn broken_by(line: &Line) -> Option<Claim>
-    ensures { (p : Past) → result ≡ broken_by_line p line.now }
+/// What is decided of an answer.
+fn decided_of(event: &Event, answer: Answer) -> Answer
+    ensures { result ≡ decided_of event.now answer }
 {
-    if !is_consequence(line) {
-        Some(Claim::Consequence)
-    } else if !is_on_link(line) {
-        Some(Claim::OnLink)
-    } else {
-        None
+    match event {
+        Event::Submit { .. } => without_room(answer),
+        Event::Step { .. } => without_age(answer),
+        _ => answer,
     }
 }
 
-/// The claim that an entry breaks as a whole.
-fn broken_as_whole(has_cause: bool) -> Option<Broken>
-    ensures { result ≡ or_broken at_entry (if not has_cause then Some Claim.LossCause else None) None }
-{
-    if has_cause {
-        None
-    } else {
-        Some(Broken {
-            claim: Claim::LossCause,
-            line: None,
-        })
-    }
-}
-
-/// Whether two answers are the same.
-fn is_same_answer(one: Answer, other: Answer) -> bool
-    ensures { result ≡ is_same_answer one other }
-{
-    answer_number(one) == answer_number(other)
-}
-
-/// A number by which answers are told apart: 0 is ok.
-fn answer_number(answer: Answer) -> u8
-    ensures { result ≡ answer_number answer }
+/// An answer to a submission, but for whether there is room for it.
+fn without_room(answer: Answer) -> Answer
+    ensures { result ≡ without_room answer }
 {
     match answer {
-        Answer::Ok => 0,
-        Answer::No(Refusal::NoBearer) => 1,
-        Answer::No(Refusal::BearerThere) => 2,
-        Answer::No(Refusal::Busy) => 3,
-        Answer::No(Refusal::NoSecondary) => 4,
-        Answer::No(Refusal::SecondaryThere) => 5,
-        Answer::No(Refusal::SameShape) => 6,
-        Answer::No(Refusal::IdSpent) => 7,
-        Answer::No(Refusal::CounterSpent) => 8,
-        Answer::No(Refusal::RootUsed) => 9,
-        Answer::No(Refusal::NoFlight) => 10,
-        Answer::No(Refusal::NotFirst) => 11,
-        Answer::No(Refusal::NotTunnel) => 12,
-        Answer::No(Refusal::Aged) => 13,
-        Answer::No(Refusal::Full) => 14,
-        Answer::No(Refusal::Exhausted) => 15,
-        Answer::No(Refusal::NoPolicy) => 16,
+        Answer::No(Refusal::Full) => Answer::Ok,
+        Answer::No(Refusal::Exhausted) => Answer::Ok,
+        _ => answer,
+    }
+}
+
+/// An answer to a step, but for whether the flight is aged.
+fn without_age(answer: Answer) -> Answer
+    ensures { result ≡ without_age answer }
+{
+    match answer {
+        Answer::No(Refusal::Aged) => Answer::Ok,
+        _ => answer,
     }
 }

@@ -42,6 +42,13 @@ impl Queue {
         self.flights.len()
     }
 
+    /// The flight at this place.
+    fn get(&self, place: usize) -> Option<&Flight>
+        ensures { option_copied result ≡ slice_get self.now place }
+    {
+        self.flights.get(place)
+    }
+
     /// The flight at this place is taken away, if there is such a place.
     fn take(&mut self, place: usize)
         ensures { self.new ≡ remove self.old place }
@@ -91,6 +98,13 @@ impl LinkQueues {
         ensures { result ≡ length (flights_on link self.now) }
     {
         self.queues[link.number()].len()
+    }
+
+    /// The flight at a place of a link.
+    pub fn get(&self, link: LinkId, place: usize) -> Option<&Flight>
+        ensures { option_copied result ≡ slice_get (flights_on link self.now) place }
+    {
+        self.queues[link.number()].get(place)
     }
 
     /// The flight that an event takes is taken away, if it takes one and it is there.

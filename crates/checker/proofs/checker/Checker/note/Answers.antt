@@ -4,4 +4,5 @@ use Rattle.checker.proofs.Deciding.{noted_if}
 use Rattle.checker.proofs.checker.Checker.note.Goals as goal
 
 pub returns : goal.returns
-returns c = λ p are. noted_if c.put.result _ _ p c.args.line.now (subst (λ (s : Parts). ArePartsOf s p) (sym c.self.view_is) are) c.put.ensures
+returns c = λ p are.
+    noted_if c.note.result _ c.put.new.self c.note.new.self p c.args.line.now (subst (λ (s : Parts). ArePartsOf s p) (sym c.self.view_is) are) c.in_ok-put.ensures c.note.ensures

@@ -1,0 +1,10 @@
+pub mod Blank
+pub mod PlacedRows
+pub mod Latest
+pub mod KeptBearers
+pub mod KeptLines
+pub mod KeptEvents
+pub mod Room
+pub mod KeptDue
+pub mod SameItems
+pub mod KeptPlans
