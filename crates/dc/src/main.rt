@@ -1,10 +1,11 @@
 //! `dc`: NR-NR dual connectivity, run from a script. It makes the real source and sinks and the shipped routing policies,
-//! calls the top call and ends with its status.
+//! makes the top call that takes the form of the words, and ends with its status.
 #![tactic(auto)]
 
+use check_form::check_command;
 use dc_base::{Memory, Status};
 use dc_outside::{StdSink, StdSource};
-use dc_top::{run_command, shipped_policies, write_fault};
+use dc_top::{is_check, run_command, shipped_policies, write_fault};
 use std::alloc::AllocError;
 use std::io::ErrorKind;
 use std::process::ExitCode;
@@ -31,24 +32,46 @@ fn status_of(error: &io::Error) -> Status {
     }
 }
 
-fn main(rt: HostRuntime) -> ExitCode {
+/// The form `run`, and the forms that read nothing, under the shipped routing policies. Answers the number that the program ends
+/// with.
+fn run(rt: &HostRuntime, words: &[String]) -> u8 {
     let alloc = rt.alloc();
     let mut err = StdSink::new(rt.stderr());
-    let status = match (words(&rt), shipped_policies!(alloc)) {
-        (Ok(words), Ok(policies)) => {
+    let status = match shipped_policies!(alloc) {
+        Ok(policies) => {
             let mut src = StdSource::new(rt.reader());
             let mut out = StdSink::new(rt.stdout());
-            let words = words.as_slice();
             run_command(alloc, words, &mut src, &mut out, &mut err, &policies)
         }
-        (Err(status), _) => {
-            write_fault(alloc, status, &mut err);
-            status
-        }
-        (_, Err(Memory)) => {
+        Err(Memory) => {
             write_fault(alloc, Status::Memory, &mut err);
             Status::Memory
         }
     };
-    ExitCode::from(status.number())
+    status.number()
+}
+
+/// The form `check`. Answers the number that the program ends with.
+fn check(rt: &HostRuntime) -> u8 {
+    let mut src = StdSource::new(rt.reader());
+    let mut out = StdSink::new(rt.stdout());
+    let mut err = StdSink::new(rt.stderr());
+    check_command(rt.alloc(), &mut src, &mut out, &mut err).number()
+}
+
+fn main(rt: HostRuntime) -> ExitCode {
+    let number = match words(&rt) {
+        Ok(words) => {
+            if is_check(words.as_slice()) {
+                check(&rt)
+            } else {
+                run(&rt, words.as_slice())
+            }
+        }
+        Err(status) => {
+            write_fault(rt.alloc(), status, &mut StdSink::new(rt.stderr()));
+            status.number()
+        }
+    };
+    ExitCode::from(number)
 }

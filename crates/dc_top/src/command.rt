@@ -1,11 +1,11 @@
 //! The command line, read and run.
 
-ghost use Rattle.std.specs.Prelude.{◌≡◌, ◌↔◌, ◌⊎◌, ℕ, List, Some, IsTrue, map, string_bytes};
+ghost use Rattle.std.specs.Prelude.{◌≡◌, ◌↔◌, ◌⊎◌, ◌∷◌, [], ℕ, List, Some, IsTrue, map, string_bytes};
 ghost use Rattle.dc_base.specs.declared.answers.Status.{Status};
 ghost use Rattle.dc_outside.specs.Faults.{Rose};
 ghost use Rattle.split_leg.specs.Stored.{margins};
 ghost use Rattle.node_rules.specs.Choices.{by_policies};
-ghost use Rattle.dc_top.specs.Command.{HasWritten, IsRun, IsNoOther};
+ghost use Rattle.dc_top.specs.Command.{HasShown, HasWritten, IsCheck, IsNoOther, IsNoShown, IsRun};
 ghost use Rattle.dc_top.specs.Ended.{HasEnded};
 
 use crate::faults::write_fault;
@@ -13,17 +13,34 @@ use crate::running::run_script;
 use dc_base::Status;
 use dc_forms::run_form;
 use dc_outside::{Sink, Source};
+use made_runs::made_command;
+use made_scripts::read_form;
 use split_leg::Policies;
 use std::alloc::Global;
+
+/// Whether the words are this one alone.
+fn is_only(words: &[String], name: &str) -> bool
+    ensures { IsTrue result ↔ (map string_bytes words.now ≡ name.now ∷ []) }
+{
+    match words {
+        [word] => word.as_str() == name,
+        _ => false,
+    }
+}
 
 /// Whether the words are the form that reads a script: `run`.
 fn is_run(words: &[String]) -> bool
     ensures { IsTrue result ↔ IsRun (map string_bytes words.now) }
 {
-    match words {
-        [word] => word.as_str() == "run",
-        _ => false,
-    }
+    is_only(words, "run")
+}
+
+/// Whether the words are the form that reads a transcript: `check`. It is no form of `run_command`; a call of its own takes it,
+/// `check_command` of `check_form`.
+pub fn is_check(words: &[String]) -> bool
+    ensures { IsTrue result ↔ IsCheck (map string_bytes words.now) }
+{
+    is_only(words, "check")
 }
 
 /// Runs the script that the source gives, and writes its transcript.
@@ -42,11 +59,11 @@ fn run<S: Source, K: Sink>(alloc: Global, src: &mut S, out: &mut K, policies: &P
     }
 }
 
-/// Writes what one of the other forms does.
-fn write_form<K: Sink>(alloc: Global, words: &[String], out: &mut K) -> Status
-    ensures written { HasWritten (map string_bytes words.now) result (K.put_out out.old) (K.put_out out.new) }
-    ensures usage { result ≡ Status.Usage → IsNoOther (map string_bytes words.now) }
-    ensures no_form { IsNoOther (map string_bytes words.now) → (result ≡ Status.Usage) ⊎ (result ≡ Status.Memory) }
+/// Writes what `keys`, `nea2` or `show` shows.
+fn write_shown<K: Sink>(alloc: Global, words: &[String], out: &mut K) -> Status
+    ensures written { HasShown (map string_bytes words.now) result (K.put_out out.old) (K.put_out out.new) }
+    ensures usage { result ≡ Status.Usage → IsNoShown (map string_bytes words.now) }
+    ensures no_form { IsNoShown (map string_bytes words.now) → (result ≡ Status.Usage) ⊎ (result ≡ Status.Memory) }
     ensures no_fault { result ≡ Status.Ok → K.fault_count out.new ≡ K.fault_count out.old }
     ensures fault { result ≡ Status.WriteFault → Rose (K.fault_count out.old) (K.fault_count out.new) }
     ensures others { result ≡ Status.ReadFault → ⊥ }
@@ -61,10 +78,25 @@ fn write_form<K: Sink>(alloc: Global, words: &[String], out: &mut K) -> Status
     }
 }
 
+/// Writes what one of the forms that read nothing does.
+fn write_form<K: Sink>(alloc: Global, words: &[String], out: &mut K, policies: &Policies) -> Status
+    ensures written { HasWritten (by_policies (margins policies.now)) (map string_bytes words.now) result (K.put_out out.old) (K.put_out out.new) }
+    ensures usage { result ≡ Status.Usage → IsNoOther (map string_bytes words.now) }
+    ensures no_form { IsNoOther (map string_bytes words.now) → (result ≡ Status.Usage) ⊎ (result ≡ Status.Memory) }
+    ensures no_fault { result ≡ Status.Ok → K.fault_count out.new ≡ K.fault_count out.old }
+    ensures fault { result ≡ Status.WriteFault → Rose (K.fault_count out.old) (K.fault_count out.new) }
+    ensures others { result ≡ Status.ReadFault → ⊥ }
+{
+    match read_form(words) {
+        Some(form) => made_command(alloc, form, out, policies),
+        None => write_shown(alloc, words, out),
+    }
+}
+
 /// The top call: runs the program on the words of its command line, without its name, and answers the status that it
 /// ends with. `run` reads a script from `src` and writes the transcript to `out`; its bearers name the stored policies by
-/// their numbers. `keys`, `nea2` and `show` write what their words say, and read nothing. Any other words are `Usage`. A fault
-/// text goes to `err`, whose faults change nothing.
+/// their numbers. `make`, `soak`, `keys`, `nea2` and `show` write what their words say, and read nothing. Any other words are
+/// `Usage`. A fault text goes to `err`, whose faults change nothing.
 pub fn run_command<S: Source, K: Sink, E: Sink>(
     alloc: Global,
     words: &[String],
@@ -79,7 +111,7 @@ pub fn run_command<S: Source, K: Sink, E: Sink>(
 
     // Another form, or none: what was written, and that nothing was read.
     ensures written { (IsRun (map string_bytes words.now) → ⊥)
-        → HasWritten (map string_bytes words.now) result (K.put_out out.old) (K.put_out out.new) }
+        → HasWritten (by_policies (margins policies.now)) (map string_bytes words.now) result (K.put_out out.old) (K.put_out out.new) }
     ensures unread { (IsRun (map string_bytes words.now) → ⊥) → src.new ≡ src.old }
 
     // With Ok no read and no write failed.
@@ -99,7 +131,7 @@ pub fn run_command<S: Source, K: Sink, E: Sink>(
     let status = if is_run(words) {
         run(alloc, src, out, policies)
     } else {
-        write_form(alloc, words, out)
+        write_form(alloc, words, out, policies)
     };
     write_fault(alloc, status, err);
     status

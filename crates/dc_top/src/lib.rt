@@ -9,6 +9,6 @@ mod running;
 mod stepping;
 mod writing;
 
-pub use command::run_command;
+pub use command::{is_check, run_command};
 pub use faults::write_fault;
 pub use policies::{even, second, shipped};

@@ -10,6 +10,8 @@ mod of_dc_forms;
 #[cfg(test)]
 mod of_dc_top;
 #[cfg(test)]
+mod of_made_runs;
+#[cfg(test)]
 mod of_made_scripts;
 #[cfg(test)]
 mod of_script_text;

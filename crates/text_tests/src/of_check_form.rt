@@ -35,7 +35,7 @@ fn a_transcript_that_holds(rt: HostRuntime) -> Result<(), Fail> {
     let lines =
         "> bearer 1 12 0 mm 0 0\n= ok\n- send mt.ctl reconf 1 - 1/12/0/mm/0/0/m0/-\n> lose mt.ctl 0\n= no nottunnel\n> lose ma.tun 0\n= no noflight\n";
     let told =
-        "ok: 3 entries; decided: consequence; on_link, but for the form of packets; cause, of losses and copies\n";
+        "ok: 3 entries; decided: cause, but for full windows and aged flights; consequence; on_link, but for the form of packets; planned\n";
     is_told(&rt, rt.alloc(), lines, Outcome::Holds, told)
 }
 
@@ -47,12 +47,20 @@ fn claims_that_do_not_hold(rt: HostRuntime) -> Result<(), Fail> {
             "line 4: consequence: an event has one answer, and after it stand notes and sends alone\n",
         ),
         (
-            "> dl 1 00\n= ok\n- send mt.ctl ack 1 1 0\n",
+            "> deny a on\n= ok\n- send mt.ctl ack 1 1 0\n",
             "line 4: on_link: this flight may not stand on this link\n",
         ),
         (
             "> release\n= no nosecondary\n> lose ma.tun 0\n= ok\n",
             "line 4: cause: this answer is not due to the event\n",
+        ),
+        (
+            "> change\n= ok\n",
+            "line 2: cause: this answer is not due to the event\n",
+        ),
+        (
+            "> bearer 1 12 0 mm 0 0\n= ok\n- send mt.ctl reconf 1 - 1/12/0/mm/0/0/m1/-\n",
+            "line 4: planned: this plan was not drawn with its generation\n",
         ),
     ];
     for (lines, told) in rows {

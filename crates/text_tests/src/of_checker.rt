@@ -2,11 +2,19 @@
 
 use checker::{Broken, Checker, Claim};
 use dc_base::{
-    Answer, Class, DrbId, Event, Flight, Line, LinkId, Node, Note, Octets, Rec, Refusal, Tag,
+    Alg, Answer, Class, DrbId, Event, Flight, Header, Line, LinkId, Node, Note, Octets, Rec,
+    Refusal, Tag,
 };
 use std::alloc::Global;
 use std::process::Abort;
 use std::test::Fail;
+
+/// Of the header no claim reads more than the root and its SN Counters.
+const HEADER: Header = Header {
+    alg: Alg::Nea0,
+    used: 65536,
+    root: [7; 32],
+};
 
 /// A tunnel of the master to a secondary node.
 fn tunnel() -> LinkId {
@@ -43,7 +51,14 @@ fn lossy_run() -> [(Event, Answer, usize); 8] {
     let none = Answer::No(Refusal::NoFlight);
     [
         (Event::Lose { link, index: 0 }, none, 0),
-        (Event::Change, Answer::Ok, 2),
+        (
+            Event::Deny {
+                node: Node::A,
+                on: true,
+            },
+            Answer::Ok,
+            2,
+        ),
         (Event::Again { link, index: 1 }, Answer::Ok, 1),
         (Event::Lose { link, index: 2 }, Answer::Ok, 0),
         (Event::Again { link, index: 2 }, none, 0),
@@ -65,7 +80,7 @@ fn losses_and_copies(rt: HostRuntime) -> Result<(), Fail> {
     let link = tunnel();
     let none = Answer::No(Refusal::NoFlight);
     let broken = Broken {
-        claim: Claim::LossCause,
+        claim: Claim::Cause,
         line: None,
     };
     let rows = [
@@ -73,7 +88,7 @@ fn losses_and_copies(rt: HostRuntime) -> Result<(), Fail> {
         (Event::Again { link, index: 1 }, Answer::Ok),
     ];
     for (event, answer) in rows {
-        let mut checker = Checker::new(rt.alloc())?;
+        let mut checker = Checker::new(rt.alloc(), &HEADER)?;
         hold(&rt, rt.alloc(), &mut checker, &lossy_run())?;
         let found = checker.entry(&event, answer, &[])?;
         assert_eq!(rt; found, Some(broken), "{event:?}");
@@ -83,8 +98,12 @@ fn losses_and_copies(rt: HostRuntime) -> Result<(), Fail> {
 
 /// The first claim that an event breaks that is answered ok, with these lines.
 fn broken_by(alloc: Global, lines: &[Line]) -> Result<Option<Broken>, Fail> {
-    let mut checker = Checker::new(alloc)?;
-    Ok(checker.entry(&Event::Change, Answer::Ok, lines)?)
+    let mut checker = Checker::new(alloc, &HEADER)?;
+    let event = Event::Deny {
+        node: Node::A,
+        on: true,
+    };
+    Ok(checker.entry(&event, Answer::Ok, lines)?)
 }
 
 /// A note, a further line, and the claim that this one breaks.
@@ -158,6 +177,39 @@ fn a_data_pdu_has_a_count_beside_it(rt: HostRuntime) -> Result<(), Fail> {
     for (tag, first, is_broken) in rows {
         let broken = broken_on_air(rt.alloc(), tag, first)?;
         assert_eq!(rt; broken.is_some(), is_broken, "{first}");
+    }
+    Ok(())
+}
+
+#[test]
+fn commands(rt: HostRuntime) -> Result<(), Fail> {
+    let busy = Answer::No(Refusal::Busy);
+    let none = Answer::No(Refusal::NoSecondary);
+    let spent = Answer::No(Refusal::CounterSpent);
+    let root = [8; 32];
+    let rows = [
+        (Event::Change, none, Answer::Ok),
+        (Event::Add { node: Node::A }, spent, Answer::Ok),
+        (
+            Event::RekeyMaster { root: [7; 32] },
+            Answer::No(Refusal::RootUsed),
+            Answer::Ok,
+        ),
+        (Event::RekeyMaster { root }, Answer::Ok, none),
+        (Event::Add { node: Node::A }, busy, Answer::Ok),
+        (Event::ScgFail, none, Answer::Ok),
+    ];
+    let broken = Broken {
+        claim: Claim::Cause,
+        line: None,
+    };
+    let mut checker = Checker::new(rt.alloc(), &HEADER)?;
+    for (event, due, other) in rows {
+        let mut wrong = Checker::new(rt.alloc(), &HEADER)?;
+        let found = checker.entry(&event, due, &[])?;
+        assert_eq!(rt; found, None, "{event:?}");
+        let found = wrong.entry(&event, other, &[])?;
+        assert_eq!(rt; found, Some(broken), "{event:?}");
     }
     Ok(())
 }

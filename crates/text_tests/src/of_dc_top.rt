@@ -2,7 +2,7 @@
 
 use dc_base::Status;
 use dc_outside::{MemSink, MemSource};
-use dc_top::{run_command, shipped_policies};
+use dc_top::{is_check, run_command, shipped_policies};
 use std::alloc::Global;
 use std::test::Fail;
 
@@ -73,6 +73,15 @@ struct Left {
     unread: usize,
 }
 
+/// The words of a command line.
+fn words_of(alloc: Global, words: &[&str]) -> Result<Vec<String>, Fail> {
+    let mut line = Vec::new(alloc);
+    for word in words {
+        line.push(String::from_str(alloc, word)?)?;
+    }
+    Ok(line)
+}
+
 /// A call with these words and this input, in which the read and the write of these numbers fail.
 fn call(
     alloc: Global,
@@ -81,10 +90,7 @@ fn call(
     bad_read: u64,
     bad_write: u64,
 ) -> Result<Left, Fail> {
-    let mut line = Vec::new(alloc);
-    for word in words {
-        line.push(String::from_str(alloc, word)?)?;
-    }
+    let line = words_of(alloc, words)?;
     let mut src = MemSource::new(input.to_vec(alloc)?, vec![in alloc; bad_read]?);
     let mut out = MemSink::new(vec![in alloc; 0; 200_000]?, vec![in alloc; bad_write]?);
     let mut err = MemSink::new(vec![in alloc; 0; 400]?, Vec::new(alloc));
@@ -219,16 +225,33 @@ fn a_line_too_long(rt: HostRuntime) -> Result<(), Fail> {
 
 #[test]
 fn other_forms_and_none(rt: HostRuntime) -> Result<(), Fail> {
-    let rows: [(&[&str], Status, &[u8]); 4] = [
+    let rows: [(&[&str], Status, &[u8]); 5] = [
         (&["show", "nru", "20"], Status::Ok, b"bad kind 0\n"),
         (&["show", "nru", "2"], Status::Usage, b""),
         (&["run", "x"], Status::Usage, b""),
+        (&["check"], Status::Usage, b""),
         (&[], Status::Usage, b""),
     ];
     for (words, status, out) in rows {
         let left = call(rt.alloc(), words, SCRIPT, 1, 0)?;
         assert_eq!(rt; left.status, status);
         assert_eq!(rt; left.out.as_slice(), out);
+    }
+    Ok(())
+}
+
+#[test]
+fn the_word_check(rt: HostRuntime) -> Result<(), Fail> {
+    let rows: [(&[&str], bool); 5] = [
+        (&["check"], true),
+        (&["check", "x"], false),
+        (&["checks"], false),
+        (&["run"], false),
+        (&[], false),
+    ];
+    for (words, wanted) in rows {
+        let line = words_of(rt.alloc(), words)?;
+        assert_eq!(rt; is_check(line.as_slice()), wanted);
     }
     Ok(())
 }
