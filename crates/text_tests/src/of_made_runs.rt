@@ -9,7 +9,8 @@ use std::alloc::Global;
 use std::process::Abort;
 use std::test::Fail;
 
-const ONE_TURN: &[u8] = b"dcs1 nea2 0 5a5a5a5a5a5a5a5a5a5a5a5a5a5a5a5a5a5a5a5a5a5a5a5a5a5a5a5a5a5a5a5a\nbearer 1 18 0 mm 0 0\ndrain\nadd a\ndrain\nshape 1 mxm\ndrain\ndrain\nrecover 1\ndrain\n";
+const ONE_TURN: &[u8] =
+    b"dcs1 nea2 0 5a5a5a5a5a5a5a5a5a5a5a5a5a5a5a5a5a5a5a5a5a5a5a5a5a5a5a5a5a5a5a5a\nbearer 1 18 0 mm 0 0\ndrain\nadd a\ndrain\nshape 1 mxm\ndrain\ndrain\nrecover 1\ndrain\n";
 
 /// How a form ends, and what it writes to a sink of which this write fails.
 fn written(
